@@ -1,13 +1,12 @@
 -- Plain programs: one existential level of rules with at most one head atom, over atoms without arguments, and no
 -- constraint part. Their base, and their rules over the base's numbers. All definitions are transparent.
 use Rattle.std.specs.Prelude.{ℕ, zero, suc, Bool, true, false, ◌&&◌, nat_le, List, [], ◌∷◌, ◌++◌, map, length}
-use Rattle.std.specs.List.{list_all, flat_map, position_or_len}
+use Rattle.std.specs.List.{list_all, position_or_len}
 use Rattle.std.specs.Ordering.{nat_cmp}
 use Rattle.std.specs.declared.cmp.Ordering.TheVariants.{Less, Equal, Greater}
 use Rattle.std.specs.Cmp.Lexicographic.{slice_cmp}
 use Rattle.std.specs.Str.{bytes_eq}
 use Rattle.asp_defs.specs.declared.syntax.Quant.TheVariants.{Exists}
-use Rattle.asp_defs.specs.declared.syntax.Term.{Term}
 use Rattle.asp_defs.specs.declared.syntax.Atom.{Atom}
 use Rattle.asp_defs.specs.declared.syntax.Literal.{Literal}
 use Rattle.asp_defs.specs.declared.syntax.Literal.TheVariants.{Pos, Neg, Cmp}
@@ -79,10 +78,10 @@ rule_names r = head_names r.head ++ flatten literal_names r.body
 abbrev pub with_name : List ℕ → List (List ℕ) → List (List ℕ)
 with_name n [] = n ∷ []
 with_name n (m ∷ ms) = elim (slice_cmp nat_cmp n m) [
-    | Less ↦ n ∷ m ∷ ms
-    | Equal ↦ m ∷ ms
-    | Greater ↦ m ∷ with_name n ms
-  ]
+  | Less ↦ n ∷ m ∷ ms
+  | Equal ↦ m ∷ ms
+  | Greater ↦ m ∷ with_name n ms
+]
 
 -- the names of a list, ascending by their bytes and each once
 abbrev pub distinct_names : List (List ℕ) → List (List ℕ)
@@ -109,11 +108,11 @@ number_of names n = position_or_len (λ m. bytes_eq m n) names
 -- a rule over the numbers of its names
 abbrev pub numbered : List (List ℕ) → Rule → GroundRule
 numbered names r = record {
-    choice = false;
-    head = map (number_of names) (head_names r.head);
-    pos = map (number_of names) (flatten pos_name r.body);
-    neg = map (number_of names) (flatten neg_name r.body)
-  }
+  choice = false;
+  head = map (number_of names) (head_names r.head);
+  pos = map (number_of names) (flatten pos_name r.body);
+  neg = map (number_of names) (flatten neg_name r.body);
+}
 
 -- the ground program of plain rules
 abbrev pub ground_of : List Rule → List GroundRule

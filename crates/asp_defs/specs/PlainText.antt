@@ -1,5 +1,5 @@
 -- Plain texts: which bytes are the text of which plain program (of this project). All definitions are transparent.
-use Rattle.std.specs.Prelude.{ℕ, ◌≡◌, ◌≤◌, ◌⊎◌, Bool, true, false, not, IsTrue, List, [], ◌∷◌, ◌++◌, length}
+use Rattle.std.specs.Prelude.{ℕ, ◌≡◌, ◌≤◌, ◌⊎◌, Bool, false, IsTrue, List, [], ◌∷◌, ◌++◌, length}
 use Rattle.asp_defs.specs.declared.syntax.Literal.{Literal}
 use Rattle.asp_defs.specs.declared.syntax.Literal.TheVariants.{Pos, Neg, Cmp}
 use Rattle.asp_defs.specs.declared.syntax.Head.{Head}
