@@ -1,12 +1,52 @@
+use crate::list::Name;
 use std::alloc::AllocError;
 use thiserror::Error;
 
-/// Why a text gives no program.
+/// A form of the language that is known and not read yet.
+#[derive(Debug, Clone, Copy, PartialEq, Eq)]
+pub enum Form {
+    /// A minus before an atom.
+    Strong,
+    /// A number before or after a choice.
+    Bounds,
+}
+
+/// Why a text gives no program. Places are byte offsets from 0.
 #[derive(Debug, Drop, Error)]
 pub enum TextFault {
     /// The bytes are not a plain text.
     #[error("not yet")]
     NotPlain,
+    /// The byte there begins no token, comment or blank.
+    #[error("bad byte at {0}")]
+    BadByte(u32),
+    /// The number that begins there is too large or too small.
+    #[error("bad number at {0}")]
+    BadNumber(u32),
+    /// The block comment that begins there has no end.
+    #[error("open comment at {0}")]
+    OpenComment(u32),
+    /// There is no token.
+    #[error("no level")]
+    NoLevel,
+    /// The tokens begin a program and are none.
+    #[error("unfinished")]
+    Unfinished,
+    /// The directive there has another word than the known ones.
+    #[error("unknown directive at {0}")]
+    UnknownDirective(u32),
+    /// The text begins with something else than a level's directive.
+    #[error("before a level at {0}")]
+    BeforeLevel(u32),
+    /// A directive stands there behind the constraint part.
+    #[error("after the constraint part at {0}")]
+    AfterConstraint(u32),
+    /// A form stands there that is not read yet.
+    #[error("not yet at {0}")]
+    NotYet(u32, Form),
+    /// The token there continues no program.
+    #[error("unexpected at {0}")]
+    Unexpected(u32),
     /// Memory ran out while the program was built.
     #[error("out of memory")]
     NoMemory,
@@ -20,5 +60,88 @@ impl From<AllocError> for TextFault {
 
     fn from(_: AllocError) -> TextFault {
         TextFault::NoMemory
+    }
+}
+
+/// A variable of a rule: a named one, or one of its nameless ones.
+#[derive(Debug, Drop)]
+pub enum Var {
+    Named(Name),
+    Anon,
+}
+
+/// What a limit counts.
+#[derive(Debug, Clone, Copy, PartialEq, Eq)]
+pub enum Which {
+    Bytes,
+    Levels,
+    Arguments,
+    Literals,
+    Variables,
+    Constants,
+    Atoms,
+    Instances,
+}
+
+/// Why a program gives no game.
+#[derive(Debug, Drop, Error)]
+pub enum SizeFault {
+    /// More than the limit were counted, at most 10^18.
+    #[error("too large: {1}")]
+    TooLarge(Which, u64),
+    /// Memory ran out while the game was built.
+    #[error("out of memory")]
+    NoMemory,
+}
+
+impl From<AllocError> for SizeFault {
+    ghost use Rattle.std.specs.Prelude.{◌≡◌};
+    ghost use Rattle.asp_defs.specs.declared.faults.SizeFault.TheVariants.{NoMemory};
+
+    ghost from_gives = { λ _ fault. fault ≡ NoMemory };
+
+    fn from(_: AllocError) -> SizeFault {
+        SizeFault::NoMemory
+    }
+}
+
+/// Which budget a search has spent: placements of the search for candidates or of the minimality check, or the
+/// cells of the store.
+#[derive(Debug, Clone, Copy, PartialEq, Eq)]
+pub enum Kind {
+    Search,
+    Minimal,
+    Store,
+}
+
+/// An answer that stays open, since a budget was spent at a level.
+#[derive(Debug, Clone, Copy, PartialEq, Eq)]
+pub struct Unknown {
+    pub kind: Kind,
+    /// The level, from 1.
+    pub level: u32,
+    /// The placements or cells that were allowed.
+    pub budget: u64,
+}
+
+/// Why a search gives up.
+#[derive(Debug, Drop, Error)]
+pub enum Give {
+    /// A budget was spent.
+    #[error("a budget was spent")]
+    Spent(Unknown),
+    /// Memory ran out.
+    #[error("out of memory")]
+    NoMemory,
+}
+
+impl From<AllocError> for Give {
+    ghost use Rattle.std.specs.Prelude.{◌≡◌};
+    ghost use Rattle.asp_defs.specs.declared.faults.Give.TheVariants.{NoMemory};
+
+    ghost from_gives = { λ _ give. give ≡ NoMemory };
+
+    fn from(_: AllocError) -> Give {
+        Give::NoMemory
     }
 }

@@ -1,4 +1,34 @@
-use crate::list::List;
+ghost use Rattle.std.specs.Prelude.{◌≡◌, IfOk};
+
+use crate::list::{List, Name};
+use crate::syntax::Quant;
+use std::alloc::{AllocError, Global};
+
+/// A constant: integers come before symbols, integers by value and symbols by their bytes.
+#[derive(Debug, Drop)]
+pub enum Const {
+    Int(i32),
+    Sym(Name),
+}
+
+impl Const {
+    /// An equal constant.
+    pub fn copy(&self, alloc: Global) -> Result<Const, AllocError>
+        ensures { IfOk result (λ constant. constant ≡ self.now) }
+    {
+        match self {
+            Const::Int(value) => Ok(Const::Int(*value)),
+            Const::Sym(name) => Ok(Const::Sym(name.copy(alloc)?)),
+        }
+    }
+}
+
+/// An atom without variables.
+#[derive(Debug, Drop)]
+pub struct GroundAtom {
+    pub name: Name,
+    pub args: List<Const>,
+}
 
 /// A rule over numbered atoms. The body is true where all of `pos` and none of `neg` hold.
 ///
@@ -14,4 +44,30 @@ pub struct GroundRule {
     pub pos: List<u32>,
     /// The negative body.
     pub neg: List<u32>,
+}
+
+/// The bases of a program with n levels.
+#[derive(Debug, Drop)]
+pub struct Bases {
+    /// The atoms of the last base, ascending; an atom's number is its position here.
+    pub atoms: List<GroundAtom>,
+    /// For each level from 0 to n + 1 the ascending numbers of its base.
+    pub members: List<List<u32>>,
+}
+
+/// A quantified ground program.
+#[derive(Debug, Drop)]
+pub struct Game {
+    /// The quantifiers of the levels 1 to n.
+    pub quants: List<Quant>,
+    pub bases: Bases,
+    /// The rules of the levels 1 to n, and last those of the constraint part, which is level n + 1.
+    pub rules: List<List<GroundRule>>,
+}
+
+/// A literal over numbered atoms: the atom, or its negation.
+#[derive(Debug, Clone, Copy, PartialEq, Eq)]
+pub struct Lit {
+    pub atom: u32,
+    pub positive: bool,
 }

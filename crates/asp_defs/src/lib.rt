@@ -5,13 +5,17 @@
 //! numbered atoms), `faults` (why a text is refused).
 #![tactic(auto)]
 
+pub mod examples;
+pub mod examples_text;
 mod faults;
 mod ground;
+pub mod laws;
+pub mod laws_text;
 mod list;
 mod syntax;
 
-pub use faults::TextFault;
-pub use ground::GroundRule;
+pub use faults::{Form, Give, Kind, SizeFault, TextFault, Unknown, Var, Which};
+pub use ground::{Bases, Const, Game, GroundAtom, GroundRule, Lit};
 pub use list::{List, Name};
 pub use std::alloc::AllocError as NoMemory;
 pub use syntax::{Atom, Element, Head, Literal, Op, Part, Program, Quant, Rule, Term};

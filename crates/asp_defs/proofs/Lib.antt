@@ -1,0 +1,13 @@
+pub mod Lists
+pub mod Subsets
+pub mod AnswerSetLaws
+pub mod FoundedLaws
+pub mod HistoryLaws
+pub mod CellLaws
+pub mod TextReadings
+pub mod TextRefutations
+pub mod TextFaults
+pub mod TextEnds
+pub mod LogReadings
+pub mod Numbering
+pub mod Unambiguous

@@ -1,0 +1,168 @@
+-- Small programs, each written above as a text, for the worked examples of the definitions. All are transparent.
+use Rattle.std.specs.Prelude.{ℕ, pos, negsuc, Bool, true, false, List, [], ◌∷◌, codes}
+use Rattle.asp_defs.specs.declared.syntax.Quant.TheVariants.{Exists, Forall}
+use Rattle.asp_defs.specs.declared.syntax.Op.TheVariants.{Gt, Ne}
+use Rattle.asp_defs.specs.declared.syntax.Term.{Term}
+use Rattle.asp_defs.specs.declared.syntax.Term.TheVariants.{Int, Sym, Var, Anon, Range}
+use Rattle.asp_defs.specs.declared.syntax.Atom.{Atom}
+use Rattle.asp_defs.specs.declared.syntax.Literal.{Literal}
+use Rattle.asp_defs.specs.declared.syntax.Literal.TheVariants.{Pos, Neg, Cmp}
+use Rattle.asp_defs.specs.declared.syntax.Element.{Element}
+use Rattle.asp_defs.specs.declared.syntax.Head.TheVariants.{Disj, Choice}
+use Rattle.asp_defs.specs.declared.syntax.Rule.{Rule}
+use Rattle.asp_defs.specs.declared.syntax.Part.{Part}
+use Rattle.asp_defs.specs.declared.syntax.Program.{Program}
+use Rattle.asp_defs.specs.declared.ground.Lit.{Lit}
+use Rattle.asp_defs.specs.Entries.{Entry}
+
+-- an atom with its arguments, and one without
+abbrev pub atom : List ℕ → List Term → Atom
+atom name args = record { name = name; args = args }
+
+abbrev pub prop : List ℕ → Atom
+prop name = atom name []
+
+-- a disjunctive rule, a constraint, an element without a condition, and a choice
+abbrev pub rule : List Atom → List Literal → Rule
+rule atoms body = record { head = Disj atoms; body = body }
+
+abbrev pub denial : List Literal → Rule
+denial body = rule [] body
+
+abbrev pub element : Atom → List Literal → Element
+element chosen cond = record { atom = chosen; cond = cond }
+
+abbrev pub choice : List Element → List Literal → Rule
+choice elements body = record { head = Choice elements; body = body }
+
+-- levels and a program
+abbrev pub exists : List Rule → Part
+exists rules = record { quant = Exists; rules = rules }
+
+abbrev pub forall : List Rule → Part
+forall rules = record { quant = Forall; rules = rules }
+
+abbrev pub program : List Part → List Rule → Program
+program levels cons = record { levels = levels; cons = cons }
+
+-- the atoms that most examples use
+abbrev pub a : Atom
+a = prop (codes "a")
+
+abbrev pub b : Atom
+b = prop (codes "b")
+
+abbrev pub c : Atom
+c = prop (codes "c")
+
+abbrev pub x : Term
+x = Var (codes "X")
+
+abbrev pub at : List ℕ → Term → Atom
+at name t = atom name (t ∷ [])
+
+abbrev pub int : ℕ → Term
+int k = Int (pos k)
+
+-- ---- programs
+
+-- exists: {a}. constraints: :- not a.
+abbrev pub chosen_atom : Program
+chosen_atom = program (exists (choice (element a [] ∷ []) [] ∷ []) ∷ []) (denial (Neg a ∷ []) ∷ [])
+
+-- exists: {a;b}. forall: {c}. constraints: :- c, not a.
+abbrev pub minimax : Program
+minimax = program (exists (choice (element a [] ∷ element b [] ∷ []) [] ∷ []) ∷ forall (choice (element c [] ∷ []) [] ∷ []) ∷ []) (denial (Pos c ∷ Neg a ∷ []) ∷ [])
+
+-- forall: a :- not a. constraints: :- not b.
+abbrev pub forall_over_nothing : Program
+forall_over_nothing = program (forall (rule (a ∷ []) (Neg a ∷ []) ∷ []) ∷ []) (denial (Neg b ∷ []) ∷ [])
+
+-- exists: a :- not a.
+abbrev pub odd_loop : Program
+odd_loop = program (exists (rule (a ∷ []) (Neg a ∷ []) ∷ []) ∷ []) []
+
+-- exists: a | b. a :- b. b :- a.
+abbrev pub both_of_a_disjunction : Program
+both_of_a_disjunction = program (exists (rule (a ∷ b ∷ []) [] ∷ rule (a ∷ []) (Pos b ∷ []) ∷ rule (b ∷ []) (Pos a ∷ []) ∷ []) ∷ []) []
+
+-- exists: a :- b. b :- a. a :- c. {c}.
+abbrev pub positive_loop : Program
+positive_loop = program (exists (rule (a ∷ []) (Pos b ∷ []) ∷ rule (b ∷ []) (Pos a ∷ []) ∷ rule (a ∷ []) (Pos c ∷ []) ∷ choice (element c [] ∷ []) [] ∷ []) ∷ []) []
+
+-- exists: {a}. forall: a. constraints: :- a.
+abbrev pub fixed_false : Program
+fixed_false = program (exists (choice (element a [] ∷ []) [] ∷ []) ∷ forall (rule (a ∷ []) [] ∷ []) ∷ []) (denial (Pos a ∷ []) ∷ [])
+
+-- exists: p(1). exists: p(2). constraints: :- not p(2).
+abbrev pub grown_universe : Program
+grown_universe = program (exists (rule (at (codes "p") (int 1) ∷ []) [] ∷ []) ∷ exists (rule (at (codes "p") (int 2) ∷ []) [] ∷ []) ∷ []) (denial (Neg (at (codes "p") (int 2)) ∷ []) ∷ [])
+
+-- exists: {a}. constraints: :- not a, not b.
+abbrev pub unused_atom : Program
+unused_atom = program (exists (choice (element a [] ∷ []) [] ∷ []) ∷ []) (denial (Neg a ∷ Neg b ∷ []) ∷ [])
+
+-- exists: {a;b}.
+abbrev pub two_choices : Program
+two_choices = program (exists (choice (element a [] ∷ element b [] ∷ []) [] ∷ []) ∷ []) []
+
+-- exists: {a}. exists: {b} :- a. forall: {c}. constraints: :- c, not b.
+abbrev pub three_levels : Program
+three_levels = program (exists (choice (element a [] ∷ []) [] ∷ []) ∷ exists (choice (element b [] ∷ []) (Pos a ∷ []) ∷ []) ∷ forall (choice (element c [] ∷ []) [] ∷ []) ∷ []) (denial (Pos c ∷ Neg b ∷ []) ∷ [])
+
+-- exists: n(1..2). {p(X)} :- n(X), X > 1.
+abbrev pub interval_and_comparison : Program
+interval_and_comparison = program (exists (rule (at (codes "n") (Range (pos 1) (pos 2)) ∷ []) [] ∷ choice (element (at (codes "p") x) [] ∷ []) (Pos (at (codes "n") x) ∷ Cmp x Gt (int 1) ∷ []) ∷ []) ∷ []) []
+
+-- exists: s(b). s(10). s(-2).
+abbrev pub order_of_constants : Program
+order_of_constants = program (exists (rule (at (codes "s") (Sym (codes "b")) ∷ []) [] ∷ rule (at (codes "s") (int 10) ∷ []) [] ∷ rule (at (codes "s") (Int (negsuc 1)) ∷ []) [] ∷ []) ∷ []) []
+
+-- exists: q(1). q(2). r :- q(_).
+abbrev pub anonymous : Program
+anonymous = program (exists (rule (at (codes "q") (int 1) ∷ []) [] ∷ rule (at (codes "q") (int 2) ∷ []) [] ∷ rule (prop (codes "r") ∷ []) (Pos (at (codes "q") (Anon 1)) ∷ []) ∷ []) ∷ []) []
+
+-- exists: n(1). {a : n(X); b : n(X), X > 1}.
+abbrev pub conditional_choice : Program
+conditional_choice = program (exists (rule (at (codes "n") (int 1) ∷ []) [] ∷ choice (element a (Pos (at (codes "n") x) ∷ []) ∷ element b (Pos (at (codes "n") x) ∷ Cmp x Gt (int 1) ∷ []) ∷ []) [] ∷ []) ∷ []) []
+
+-- exists: p(1). q(2).
+abbrev pub larger_base : Program
+larger_base = program (exists (rule (at (codes "p") (int 1) ∷ []) [] ∷ rule (at (codes "q") (int 2) ∷ []) [] ∷ []) ∷ []) []
+
+-- exists: p(2..1). q.
+abbrev pub swapped_interval : Program
+swapped_interval = program (exists (rule (at (codes "p") (Range (pos 2) (pos 1)) ∷ []) [] ∷ rule (prop (codes "q") ∷ []) [] ∷ []) ∷ []) []
+
+-- exists: e(1). e(2). a :- e(X), e(Y), X != Y.
+abbrev pub two_variables : Program
+two_variables = program (exists (rule (at (codes "e") (int 1) ∷ []) [] ∷ rule (at (codes "e") (int 2) ∷ []) [] ∷ rule (a ∷ []) (Pos (at (codes "e") x) ∷ Pos (at (codes "e") (Var (codes "Y"))) ∷ Cmp x Ne (Var (codes "Y")) ∷ []) ∷ []) ∷ []) []
+
+-- exists: {a}. constraints: :- a. :- not a.
+abbrev pub contradiction : Program
+contradiction = program (exists (choice (element a [] ∷ []) [] ∷ []) ∷ []) (denial (Pos a ∷ []) ∷ denial (Neg a ∷ []) ∷ [])
+
+-- exists, without rules.
+abbrev pub nothing : Program
+nothing = program (exists [] ∷ []) []
+
+-- ---- histories
+
+abbrev pub literal : ℕ → Bool → Lit
+literal atom positive = record { atom = atom; positive = positive }
+
+abbrev pub entry : ℕ → List Lit → Bool → List ℕ → Entry
+entry level cube verdict seed = record { level = level; cube = cube; verdict = verdict; seed = seed }
+
+-- both levels of the program without rules are won
+abbrev pub won : List Entry
+won = entry 2 [] true [] ∷ entry 1 [] true [] ∷ []
+
+-- the contradiction, refuted for each choice of its first level
+abbrev pub refuted : List Entry
+refuted =
+    entry 2 (literal 0 true ∷ []) false (0 ∷ []) ∷ entry 2 (literal 0 false ∷ []) false [] ∷ entry 1 [] false [] ∷ []
+
+-- the same with one choice left out
+abbrev pub half_refuted : List Entry
+half_refuted = entry 2 (literal 0 true ∷ []) false (0 ∷ []) ∷ entry 1 [] false [] ∷ []

@@ -1,0 +1,94 @@
+-- Small texts and the programs that they are, for the worked examples of the definitions of texts. All are transparent.
+use Rattle.std.specs.Prelude.{ℕ, pos, negsuc, true, false, List, [], ◌∷◌, codes, replicate}
+use Rattle.asp_defs.specs.declared.syntax.Op.TheVariants.{Eq, Ne}
+use Rattle.asp_defs.specs.declared.syntax.Term.{Term}
+use Rattle.asp_defs.specs.declared.syntax.Term.TheVariants.{Int, Var, Anon, Range}
+use Rattle.asp_defs.specs.declared.syntax.Atom.{Atom}
+use Rattle.asp_defs.specs.declared.syntax.Literal.TheVariants.{Pos, Neg, Cmp}
+use Rattle.asp_defs.specs.declared.syntax.Rule.{Rule}
+use Rattle.asp_defs.specs.declared.syntax.Program.{Program}
+use Rattle.asp_defs.specs.declared.ground.Const.TheVariants as const
+use Rattle.asp_defs.specs.declared.ground.Bases.{Bases}
+use Rattle.asp_defs.specs.Entries.{Entry}
+use Rattle.asp_defs.specs.Examples as ex
+
+abbrev pub d : Atom
+d = ex.prop (codes "d")
+
+abbrev pub e : Atom
+e = ex.prop (codes "e")
+
+abbrev pub f : Atom
+f = ex.prop (codes "f")
+
+abbrev pub y : Term
+y = Var (codes "Y")
+
+-- a text with a comment, a condition and few blanks, and its program
+abbrev pub close_text : List ℕ
+close_text = codes "%@exists\na:-b ,not c. % x\n{ d ; e:f }.\n"
+
+abbrev pub close_rule : Rule
+close_rule = ex.rule (ex.a ∷ []) (Pos ex.b ∷ Neg ex.c ∷ [])
+
+abbrev pub close_choice : Rule
+close_choice = ex.choice (ex.element d [] ∷ ex.element e (Pos f ∷ []) ∷ []) []
+
+abbrev pub close_program : Program
+close_program = ex.program (ex.exists (close_rule ∷ close_choice ∷ []) ∷ []) []
+
+-- p(X) :- not q(X). Its variable stands in no positive body atom
+abbrev pub unbound_rule : Rule
+unbound_rule = ex.rule (ex.at (codes "p") ex.x ∷ []) (Neg (ex.at (codes "q") ex.x) ∷ [])
+
+-- :- Y = X, Y = 1. Both variables are bound by a chain of equations
+abbrev pub chained_rule : Rule
+chained_rule = ex.denial (Cmp y Eq ex.x ∷ Cmp y Eq (ex.int 1) ∷ [])
+
+-- {p(X) : q(X); p(Y)} :- not r(X). The condition binds X in its element, but not in the body; nothing binds Y
+abbrev pub half_bound_rule : Rule
+half_bound_rule =
+    ex.choice
+    (ex.element (ex.at (codes "p") ex.x) (Pos (ex.at (codes "q") ex.x) ∷ [])
+    ∷ ex.element (ex.at (codes "p") y) [] ∷ [])
+    (Neg (ex.at (codes "r") ex.x) ∷ [])
+
+-- one existential level with a fact a, and behind it the constraint part :- a. p :- not q.
+abbrev pub headed_program : Program
+headed_program =
+    ex.program (ex.exists (ex.rule (ex.a ∷ []) [] ∷ []) ∷ [])
+    (ex.denial (Pos ex.a ∷ []) ∷ ex.rule (ex.prop (codes "p") ∷ []) (Neg (ex.prop (codes "q")) ∷ []) ∷ [])
+
+-- seventeen levels without rules
+abbrev pub deep_program : Program
+deep_program = ex.program (replicate 17 (ex.exists [])) []
+
+-- p(1..3). t(X,_) | u :- X != 2, not v(_,-1). A rule of each kind of term
+abbrev pub terms_program : Program
+terms_program =
+    ex.program (ex.forall (
+    ex.rule (ex.at (codes "p") (Range (pos 1) (pos 3)) ∷ []) []
+    ∷ ex.rule (ex.atom (codes "t") (ex.x ∷ Anon 1 ∷ []) ∷ ex.prop (codes "u") ∷ [])
+    (Cmp ex.x Ne (ex.int 2) ∷ Neg (ex.atom (codes "v") (Anon 2 ∷ Int (negsuc 0) ∷ [])) ∷ []) ∷ []) ∷ [])
+    (ex.denial [] ∷ [])
+
+-- the bases of one level with the atoms a and p(-2,b), and of a constraint part with the atom q too
+abbrev pub small_bases : Bases
+small_bases = record {
+  atoms =
+      record { name = codes "a"; args = [] }
+      ∷ record { name = codes "p"; args = const.Int (negsuc 1) ∷ const.Sym (codes "b") ∷ [] }
+      ∷ record { name = codes "q"; args = [] } ∷ [];
+  members = [] ∷ (0 ∷ 1 ∷ []) ∷ (0 ∷ 1 ∷ 2 ∷ []) ∷ [];
+}
+
+-- bases of one level and a constraint part without atoms
+abbrev pub no_bases : Bases
+no_bases = record { atoms = []; members = [] ∷ [] ∷ [] ∷ [] }
+
+-- the constraint part holds of every move, and so does the first level; and an entry with a literal and a seed
+abbrev pub two_entries : List Entry
+two_entries = ex.entry 2 [] true [] ∷ ex.entry 1 [] true [] ∷ []
+
+abbrev pub cube_entry : Entry
+cube_entry = ex.entry 2 (ex.literal 0 false ∷ ex.literal 1 true ∷ []) false (1 ∷ [])

@@ -1,0 +1,38 @@
+// Laws of texts, and derivations of texts and refusals: each contract is one, and each body is empty.
+ghost use Rattle.std.specs.Prelude.{codes, []};
+ghost use Rattle.asp_defs.specs.declared.faults.Form.TheVariants.{Strong, Bounds};
+ghost use Rattle.asp_defs.specs.declared.faults.TextFault.TheVariants as faults;
+ghost use Rattle.asp_defs.specs.Grammar.{IsText};
+ghost use Rattle.asp_defs.specs.TextRefusals.{IsRefused};
+ghost use Rattle.asp_defs.specs.LogText.{IsLogOf, IsBadLine, IsUnendedLog};
+ghost use Rattle.asp_defs.specs.TextLaws.{ProgramsEnd};
+ghost use Rattle.asp_defs.specs.TextExamples as texts;
+
+/// A text with a comment, a condition and few blanks is the text of its program.
+pub fn a_text_of_its_program()
+    ensures { IsText texts.close_text texts.close_program }
+{}
+
+/// Each refusal of the grammar, of a text that has it.
+pub fn refused_texts()
+    ensures no_level { IsRefused [] faults.NoLevel }
+    ensures unfinished { IsRefused (codes "%@exists\na :- b") faults.Unfinished }
+    ensures unknown_directive { IsRefused (codes "%@foral\n") (faults.UnknownDirective 0) }
+    ensures before_level { IsRefused (codes "a.\n") (faults.BeforeLevel 0) }
+    ensures after_constraint { IsRefused (codes "%@exists\n%@constraint\n%@forall\n") (faults.AfterConstraint 22) }
+    ensures strong_negation { IsRefused (codes "%@exists\n-a.\n") (faults.NotYet 9 Strong) }
+    ensures choice_bounds { IsRefused (codes "%@exists\n1 {a} 1.\n") (faults.NotYet 9 Bounds) }
+    ensures unexpected { IsRefused (codes "%@exists\na b.\n") (faults.Unexpected 11) }
+{}
+
+/// The last token of a program is a directive or a full stop.
+pub fn programs_end()
+    ensures { ProgramsEnd }
+{}
+
+/// A log, the same without its last line, and the same with a line that is none.
+pub fn logs_and_their_faults()
+    ensures log { IsLogOf texts.no_bases (codes "ASPQ-LOG 1\n2 T [] {}\n1 T [] {}\nLOG 2\n") texts.two_entries }
+    ensures unended { IsUnendedLog texts.no_bases (codes "ASPQ-LOG 1\n2 T [] {}\n1 T [] {}\n") }
+    ensures bad_line { IsBadLine texts.no_bases (codes "ASPQ-LOG 1\n2 T [] {}\n1 X [] {}\nLOG 2\n") 3 }
+{}

@@ -1,0 +1,7 @@
+use Rattle.std.proofs.Common.{◌≡◌, drop}
+use Rattle.asp_defs.specs.PlainPrograms.{literal_names, flatten}
+use Rattle.asp_read.specs.Names.{names_added}
+use Rattle.asp_read.proofs.base.add_body.Given as goal
+
+abbrev pub invariant-loop-at : goal.invariant-loop-at
+invariant-loop-at l = l.names.items ≡ names_added (flatten literal_names (drop l.at l.body)) l.fn.names.items

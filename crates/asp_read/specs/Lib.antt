@@ -1,0 +1,4 @@
+pub mod Reads
+pub mod Tokens
+pub mod Statements
+pub mod Names
