@@ -11,3 +11,5 @@ pub mod TextEnds
 pub mod LogReadings
 pub mod Numbering
 pub mod Unambiguous
+pub mod UnambiguousRules
+pub mod TextsApart

@@ -62,7 +62,7 @@ Fills {A} fill bare numbers = (x : A) (more : List ℕ) → fill (bare x) (numbe
 
 -- two parts, one behind the other
 abbrev fill_both : {A B : Type 0} → Fill A → Fill B → A → B → List ℕ → (A × B) × List ℕ
-fill_both first second x y ks = ((( first x ks).0, (second y (first x ks).1).0), (second y (first x ks).1).1)
+fill_both first second x y ks = (((first x ks).0, (second y (first x ks).1).0), (second y (first x ks).1).1)
 
 both_fill : {A B : Type 0} (f : Fill A) (g : Fill B) (x0 : A) (y0 : B) (x : A) (y : B) (m n more : List ℕ) → ((rest : List ℕ) → f x0 (m ++ rest) ≡ (x, rest)) → ((rest : List ℕ) → g y0 (n ++ rest) ≡ (y, rest)) → fill_both f g x0 y0 (m ++ n ++ more) ≡ ((x, y), more)
 both_fill f g x0 y0 x y m n more left right =
@@ -78,7 +78,7 @@ all_fill : {A : Type 0} (fill : Fill A) (bare : A → A) (numbers : A → List �
 all_fill fill bare numbers law [] more = refl
 all_fill fill bare numbers law (x ∷ xs) more =
     ap (λ p. (p.0.0 ∷ p.0.1, p.1))
-      (both_fill fill (fill_all fill) (bare x) (map bare xs) x xs (numbers x) (flat_map numbers xs) more (law x) (all_fill fill bare numbers law xs))
+    (both_fill fill (fill_all fill) (bare x) (map bare xs) x xs (numbers x) (flat_map numbers xs) more (law x) (all_fill fill bare numbers law xs))
 
 abbrev fill_term : Fill Term
 fill_term (Anon k) [] = (Anon k, [])
@@ -111,7 +111,7 @@ literal_fills (Pos a) more = ap (λ p. (Pos p.0, p.1)) (atom_fills a more)
 literal_fills (Neg a) more = ap (λ p. (Neg p.0, p.1)) (atom_fills a more)
 literal_fills (Cmp x op y) more =
     ap (λ p. (Cmp p.0.0 op p.0.1, p.1))
-      (both_fill fill_term fill_term (bare_term x) (bare_term y) x y (term_anonymous x) (term_anonymous y) more (term_fills x) (term_fills y))
+    (both_fill fill_term fill_term (bare_term x) (bare_term y) x y (term_anonymous x) (term_anonymous y) more (term_fills x) (term_fills y))
 
 literals_fill : Fills (fill_all fill_literal) (map bare_literal) (flat_map literal_anonymous)
 literals_fill = all_fill fill_literal bare_literal literal_anonymous literal_fills
@@ -122,7 +122,7 @@ fill_element e ks = (make_element (fill_both fill_atom (fill_all fill_literal) e
 element_fills : Fills fill_element bare_element element_anonymous
 element_fills e more =
     ap (λ p. (make_element p.0.0 p.0.1, p.1))
-      (both_fill fill_atom (fill_all fill_literal) (bare_atom e.atom) (map bare_literal e.cond) e.atom e.cond (atom_anonymous e.atom) (flat_map literal_anonymous e.cond) more (atom_fills e.atom) (literals_fill e.cond))
+    (both_fill fill_atom (fill_all fill_literal) (bare_atom e.atom) (map bare_literal e.cond) e.atom e.cond (atom_anonymous e.atom) (flat_map literal_anonymous e.cond) more (atom_fills e.atom) (literals_fill e.cond))
 
 abbrev fill_head : Fill Head
 fill_head (Disj atoms) ks = (Disj (fill_all fill_atom atoms ks).0, (fill_all fill_atom atoms ks).1)
@@ -138,7 +138,7 @@ fill_rule r ks = (make_rule (fill_both fill_head (fill_all fill_literal) r.head 
 rule_fills : Fills fill_rule bare_rule rule_anonymous
 rule_fills r more =
     ap (λ p. (make_rule p.0.0 p.0.1, p.1))
-      (both_fill fill_head (fill_all fill_literal) (bare_head r.head) (map bare_literal r.body) r.head r.body (head_anonymous r.head) (flat_map literal_anonymous r.body) more (head_fills r.head) (literals_fill r.body))
+    (both_fill fill_head (fill_all fill_literal) (bare_head r.head) (map bare_literal r.body) r.head r.body (head_anonymous r.head) (flat_map literal_anonymous r.body) more (head_fills r.head) (literals_fill r.body))
 
 -- ---- two lists of numbers from one on begin a common one
 

@@ -77,7 +77,7 @@ some_level_begins : (parts : List Part) (ts rest : List Token) → IsTrue (not (
 some_level_begins [] ts rest some h = clash some
 some_level_begins (part ∷ parts) ts rest some (mid, l, more) = level_begins part ts mid l
 
-program_begins : (ts : List Token) (p : Program) → IsProgram ts p → begins opens_level ts ≡ true
+pub program_begins : (ts : List Token) (p : Program) → IsProgram ts p → begins opens_level ts ≡ true
 program_begins ts p (mid, some, levels, cons) = some_level_begins p.levels ts mid some levels
 
 -- no program begins with another token

@@ -10,43 +10,43 @@ use Rattle.asp_defs.proofs.TextRefutations.{clash, begins}
 
 -- ---- what may follow
 
-abbrev lift : (p q : Token → Bool) → ((t : Token) → p t ≡ true → q t ≡ true) → (r : List Token) → begins p r ≡ true → begins q r ≡ true
+abbrev pub lift : (p q : Token → Bool) → ((t : Token) → p t ≡ true → q t ≡ true) → (r : List Token) → begins p r ≡ true → begins q r ≡ true
 lift p q f [] h = clash h
 lift p q f (t ∷ r) h = f t h
 
 -- two readings with such a rest agree, up to the numbers of nameless variables
-abbrev Alone : {A : Type 0} → Production A → (A → A) → (Token → Bool) → Type 0
+abbrev pub Alone : {A : Type 0} → Production A → (A → A) → (Token → Bool) → Type 0
 Alone {A} At bare good = (x y : A) (ts r s : List Token) → At x ts r → At y ts s → begins good r ≡ true → begins good s ≡ true → (bare x ≡ bare y) × (r ≡ s)
 
 -- a production never begins with such a token
-abbrev Starts : {A : Type 0} → Production A → (Token → Bool) → Type 0
+abbrev pub Starts : {A : Type 0} → Production A → (Token → Bool) → Type 0
 Starts {A} At after = (x : A) (ts r : List Token) → At x ts r → begins after ts ≡ false
 
 -- ---- terms
 
-abbrev in_args : Token → Bool
+abbrev pub in_args : Token → Bool
 in_args CommaToken = true
 in_args RightParenToken = true
 in_args other = false
 
-abbrev read_single : List Token → Term × List Token
+abbrev pub read_single : List Token → Term × List Token
 read_single (NumberToken x ∷ r) = (Int x, r)
 read_single (NameToken s ∷ r) = (Sym s, r)
 read_single (VariableToken v ∷ r) = (Var v, r)
 read_single ts = (Anon 0, drop 1 ts)
 
-term_reads : (x : Term) (ts r : List Token) → TermAt x ts r → read_single ts ≡ (bare_term x, r)
+pub term_reads : (x : Term) (ts r : List Token) → TermAt x ts r → read_single ts ≡ (bare_term x, r)
 term_reads (Int x) ts r e = ap read_single e
 term_reads (Sym s) ts r e = ap read_single e
 term_reads (Var v) ts r e = ap read_single e
 term_reads (Anon k) ts r e = ap read_single e
 term_reads (Range low high) ts r e = absurd e
 
-term_alone : (x y : Term) (ts r s : List Token) → TermAt x ts r → TermAt y ts s → (bare_term x ≡ bare_term y) × (r ≡ s)
+pub term_alone : (x y : Term) (ts r s : List Token) → TermAt x ts r → TermAt y ts s → (bare_term x ≡ bare_term y) × (r ≡ s)
 term_alone x y ts r s h k =
     let e = sym (term_reads x ts r h) ∙ term_reads y ts s k in (ap (λ p. p.0) e, ap (λ p. p.1) e)
 
-abbrev read_wide : List Token → Term × List Token
+abbrev pub read_wide : List Token → Term × List Token
 read_wide (NumberToken low ∷ DotsToken ∷ NumberToken high ∷ r) = (Range low high, r)
 read_wide (NumberToken x ∷ r) = (Int x, r)
 read_wide (NameToken s ∷ r) = (Sym s, r)
@@ -63,14 +63,14 @@ wide_reads (Var v) ts r e h = ap read_wide e
 wide_reads (Anon k) ts r e h = ap read_wide e
 wide_reads (Range low high) ts r e h = ap read_wide e
 
-wide_alone : Alone WideTermAt bare_term in_args
+pub wide_alone : Alone WideTermAt bare_term in_args
 wide_alone x y ts r s h k gr gs =
     let e = sym (wide_reads x ts r h gr) ∙ wide_reads y ts s k gs in (ap (λ p. p.0) e, ap (λ p. p.1) e)
 
-single_alone : Alone TermAt bare_term in_args
+pub single_alone : Alone TermAt bare_term in_args
 single_alone x y ts r s h k gr gs = term_alone x y ts r s h k
 
-term_starts : (p : Token → Bool) → ((n : _) → p (NumberToken n) ≡ false) → ((n : _) → p (NameToken n) ≡ false) → ((n : _) → p (VariableToken n) ≡ false) → p AnonymousToken ≡ false → Starts TermAt p
+pub term_starts : (p : Token → Bool) → ((n : _) → p (NumberToken n) ≡ false) → ((n : _) → p (NameToken n) ≡ false) → ((n : _) → p (VariableToken n) ≡ false) → p AnonymousToken ≡ false → Starts TermAt p
 term_starts p number name variable anonymous (Int x) ts r e = ap (begins p) e ∙ number x
 term_starts p number name variable anonymous (Sym s) ts r e = ap (begins p) e ∙ name s
 term_starts p number name variable anonymous (Var v) ts r e = ap (begins p) e ∙ variable v
@@ -87,7 +87,7 @@ wide_starts p number name variable anonymous (Range low high) ts r e = ap (begin
 -- ---- lists
 
 module _ {A : Type 0} {At : Production A} {bare : A → A} {good : Token → Bool} (alone : Alone At bare good) (joins after : Token → Bool) (j_good : (t : Token) → joins t ≡ true → good t ≡ true) (a_good : (t : Token) → after t ≡ true → good t ≡ true) (apart : (t : Token) → joins t ≡ true → after t ≡ true → ⊥) where
-  joined_alone : Alone (JoinedAt joins At) (map bare) after
+  pub joined_alone : Alone (JoinedAt joins At) (map bare) after
   joined_alone [] ys ts r s h k gr gs = absurd h
   joined_alone (x ∷ []) [] ts r s h k gr gs = absurd k
   joined_alone (x ∷ w ∷ xs) [] ts r s h k gr gs = absurd k
@@ -105,12 +105,12 @@ module _ {A : Type 0} {At : Production A} {bare : A → A} {good : Token → Boo
       let n = joined_alone (w ∷ xs) (z ∷ ys) mid r s more (subst (λ m. JoinedAt joins At (z ∷ ys) m s) (sym e) more') gr gs in
       (ap (λ v. v ∷ map bare (w ∷ xs)) d.0 ∙ ap (λ vs. bare y ∷ vs) n.0, n.1)
 
-  joined_starts : Starts At after → Starts (JoinedAt joins At) after
+  pub joined_starts : Starts At after → Starts (JoinedAt joins At) after
   joined_starts starts [] ts r h = absurd h
   joined_starts starts (x ∷ []) ts r h = starts x ts r h
   joined_starts starts (x ∷ y ∷ more) ts r (sign, mid, j, h, others) = starts x ts (sign ∷ mid) h
 
-  any_alone : Starts At after → Alone (AnyJoinedAt joins At) (map bare) after
+  pub any_alone : Starts At after → Alone (AnyJoinedAt joins At) (map bare) after
   any_alone starts [] [] ts r s h k gr gs = (refl, sym h ∙ k)
   any_alone starts [] (y ∷ ys) ts r s h k gr gs =
       clash (sym (joined_starts starts (y ∷ ys) ts s k) ∙ ap (begins after) h ∙ gr)
@@ -120,7 +120,7 @@ module _ {A : Type 0} {At : Production A} {bare : A → A} {good : Token → Boo
 
 -- ---- atoms
 
-abbrev is_close : Token → Bool
+abbrev pub is_close : Token → Bool
 is_close RightParenToken = true
 is_close other = false
 
@@ -137,7 +137,7 @@ comma_close CommaToken h k = clash k
 comma_close other h k = clash h
 
 -- what may follow an atom
-abbrev after_atom : Token → Bool
+abbrev pub after_atom : Token → Bool
 after_atom BarToken = true
 after_atom SemicolonToken = true
 after_atom ArrowToken = true
@@ -147,7 +147,7 @@ after_atom RightBraceToken = true
 after_atom CommaToken = true
 after_atom other = false
 
-abbrev first_name : List Token → List ℕ
+abbrev pub first_name : List Token → List ℕ
 first_name (NameToken n ∷ ts) = n
 first_name ts = []
 
@@ -167,8 +167,8 @@ atom_alone {At} alone starts a b ts r s (mid, e, h) (mid', f, k) gr gs =
     let d = arguments_alone alone starts a.args b.args mid r s h (subst (λ m. ArgumentsAt At b.args m s) (sym same) k) gr gs in
     (ap (λ n. make_atom n (map bare_term a.args)) (ap first_name whole) ∙ ap (make_atom b.name) d.0, d.1)
 
-single_atom_alone : Alone AtomAt bare_atom after_atom
+pub single_atom_alone : Alone AtomAt bare_atom after_atom
 single_atom_alone = atom_alone single_alone (term_starts is_close (λ n. refl) (λ n. refl) (λ n. refl) refl)
 
-wide_atom_alone : Alone WideAtomAt bare_atom after_atom
+pub wide_atom_alone : Alone WideAtomAt bare_atom after_atom
 wide_atom_alone = atom_alone wide_alone (wide_starts is_close (λ n. refl) (λ n. refl) (λ n. refl) refl)

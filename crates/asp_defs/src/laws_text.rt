@@ -5,7 +5,7 @@ ghost use Rattle.asp_defs.specs.declared.faults.TextFault.TheVariants as faults;
 ghost use Rattle.asp_defs.specs.Grammar.{IsText};
 ghost use Rattle.asp_defs.specs.TextRefusals.{IsRefused};
 ghost use Rattle.asp_defs.specs.LogText.{IsLogOf, IsBadLine, IsUnendedLog};
-ghost use Rattle.asp_defs.specs.TextLaws.{ProgramsEnd};
+ghost use Rattle.asp_defs.specs.TextLaws.{TextsAreUnambiguous, TextsAreNotRefused, RefusalsAreUnique, ProgramsEnd};
 ghost use Rattle.asp_defs.specs.TextExamples as texts;
 
 /// A text with a comment, a condition and few blanks is the text of its program.
@@ -35,4 +35,19 @@ pub fn logs_and_their_faults()
     ensures log { IsLogOf texts.no_bases (codes "ASPQ-LOG 1\n2 T [] {}\n1 T [] {}\nLOG 2\n") texts.two_entries }
     ensures unended { IsUnendedLog texts.no_bases (codes "ASPQ-LOG 1\n2 T [] {}\n1 T [] {}\n") }
     ensures bad_line { IsBadLine texts.no_bases (codes "ASPQ-LOG 1\n2 T [] {}\n1 X [] {}\nLOG 2\n") 3 }
+{}
+
+/// No bytes are the text of two programs.
+pub fn texts_are_unambiguous()
+    ensures { TextsAreUnambiguous }
+{}
+
+/// No bytes are the text of a program and refused.
+pub fn texts_are_not_refused()
+    ensures { TextsAreNotRefused }
+{}
+
+/// No bytes have two refusals.
+pub fn refusals_are_unique()
+    ensures { RefusalsAreUnique }
 {}

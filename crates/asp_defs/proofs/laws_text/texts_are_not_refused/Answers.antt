@@ -1,0 +1,5 @@
+use Rattle.asp_defs.proofs.TextsApart as texts
+use Rattle.asp_defs.proofs.laws_text.texts_are_not_refused.Goals as goal
+
+pub returns : goal.returns
+returns c = texts.texts_are_not_refused
