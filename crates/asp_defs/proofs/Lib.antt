@@ -13,3 +13,4 @@ pub mod Numbering
 pub mod Unambiguous
 pub mod UnambiguousRules
 pub mod TextsApart
+pub mod SafetyLaws

@@ -42,12 +42,12 @@ refusal text = record { code = 3; output = text }
 pub data TextRefusal (bytes : List ℕ) (ending : Ending) : Type 0 where
   TooLong : limit Bytes < length bytes → ending ≡ refusal (too_large_line Bytes 1048577) → TextRefusal bytes ending
   NoText : (fault : TextFault) → (limit Bytes < length bytes → ⊥) → IsRefused bytes fault
-    → ending ≡ refusal (text_fault_line fault) → TextRefusal bytes ending
+      → ending ≡ refusal (text_fault_line fault) → TextRefusal bytes ending
   FailedCheck : (p : Program) (why : CheckRefusal) → (limit Bytes < length bytes → ⊥) → IsText bytes p
-    → check_refusal p ≡ Some why → ending ≡ refusal (check_refusal_line why) → TextRefusal bytes ending
+      → check_refusal p ≡ Some why → ending ≡ refusal (check_refusal_line why) → TextRefusal bytes ending
   LargeGame : (p : Program) (which : Which) (count : ℕ) → (limit Bytes < length bytes → ⊥) → IsText bytes p
-    → check_refusal p ≡ None → game_too_large p ≡ Some (which, count)
-    → ending ≡ refusal (too_large_line which count) → TextRefusal bytes ending
+      → check_refusal p ≡ None → game_too_large p ≡ Some (which, count)
+      → ending ≡ refusal (too_large_line which count) → TextRefusal bytes ending
 
 -- the quantifier of a game's first level
 abbrev pub first_quant : Game → Quant
@@ -73,9 +73,9 @@ page_ending g after count =
 -- the ending of `list` on an accepted text
 abbrev pub list_ending : Game → Option (List ℕ) → ℕ → Ending
 list_ending g word count = elim (first_quant g) [
-    | Forall ↦ refusal universal_first_line
-    | Exists ↦ elim (start_of g word) [ None ↦ refusal after_refused_line | Some after ↦ page_ending g after count ]
-  ]
+  | Forall ↦ refusal universal_first_line
+  | Exists ↦ elim (start_of g word) [ None ↦ refusal after_refused_line | Some after ↦ page_ending g after count ]
+]
 
 abbrev pub verdict_code : Bool → ℕ
 verdict_code true = 10
@@ -124,7 +124,7 @@ pub record LogEnds (words : List (List ℕ)) (bytes : List ℕ) (ending : Ending
   pub shown : IsTrue (has_verdict history (is_coherent (game_of program)))
   pub code : ending.code ≡ verdict_code (is_coherent (game_of program))
   pub output : ending.output
-    ≡ verdict_line (is_coherent (game_of program)) ++ log_text (game_of program).bases history
+      ≡ verdict_line (is_coherent (game_of program)) ++ log_text (game_of program).bases history
 
 -- where a budget is spent: the open answer, and before it the sets that are known of the page
 abbrev pub open_output : Task → Program → List (List ℕ) → Unknown → List ℕ
@@ -138,9 +138,9 @@ open_output (DemoTask n) p sets u =
 abbrev pub asked_page : Task → Game → Option Page
 asked_page (SolveTask tuning log) g = Some (record { sets = []; more = false })
 asked_page (ListTask tuning count word) g = elim (first_quant g) [
-    | Forall ↦ None
-    | Exists ↦ elim (start_of g word) [ None ↦ None | Some after ↦ Some (page_of g after count) ]
-  ]
+  | Forall ↦ None
+  | Exists ↦ elim (start_of g word) [ None ↦ None | Some after ↦ Some (page_of g after count) ]
+]
 asked_page CheckTask g = None
 asked_page (DemoTask n) g = Some (page_of g None 1)
 

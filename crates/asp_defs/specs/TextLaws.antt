@@ -1,7 +1,12 @@
 -- Laws of texts. All are transparent.
 use Rattle.std.specs.Prelude.{ℕ, ◌≡◌, IsTrue, List, [], ◌∷◌, ◌++◌}
+use Rattle.std.specs.List.{flat_map}
 use Rattle.asp_defs.specs.declared.faults.TextFault.{TextFault}
+use Rattle.asp_defs.specs.declared.syntax.Literal.{Literal}
+use Rattle.asp_defs.specs.declared.syntax.Term.{Term}
 use Rattle.asp_defs.specs.declared.syntax.Program.{Program}
+use Rattle.asp_defs.specs.Lists.{IsIn}
+use Rattle.asp_defs.specs.Safety.{bound_by_atom, bound_by_equation, safe_variables}
 use Rattle.asp_defs.specs.Tokens.{Token}
 use Rattle.asp_defs.specs.Grammar.{IsProgram, IsText}
 use Rattle.asp_defs.specs.TextRefusals.{statement_after, IsRefused}
@@ -25,3 +30,15 @@ EndsProgram ts = (t : Token) × IsTrue (statement_after t) × ((front : List Tok
 -- a statement may begin exactly behind a whole program: its last token is a directive or a full stop
 abbrev pub ProgramsEnd : Type 0
 ProgramsEnd = (ts : List Token) (p : Program) → IsProgram ts p → EndsProgram ts
+
+-- variables with which a body's positive atoms and equations bring no further one
+pub record IsClosed (body : List Literal) (vs : List Term) : Type 0 where
+  pub atoms : (v : Term) → IsIn v (flat_map bound_by_atom body) → IsIn v vs
+  pub equations : (v : Term) → IsIn v (flat_map (bound_by_equation vs) body) → IsIn v vs
+
+-- the safe variables of a body are the least closed ones
+abbrev pub SafeVariablesAreLeast : Type 0
+SafeVariablesAreLeast =
+    (body : List Literal)
+    → IsClosed body (safe_variables body)
+    × ((vs : List Term) → IsClosed body vs → (v : Term) → IsIn v (safe_variables body) → IsIn v vs)

@@ -5,7 +5,7 @@ ghost use Rattle.asp_defs.specs.declared.faults.TextFault.TheVariants as faults;
 ghost use Rattle.asp_defs.specs.Grammar.{IsText};
 ghost use Rattle.asp_defs.specs.TextRefusals.{IsRefused};
 ghost use Rattle.asp_defs.specs.LogText.{IsLogOf, IsBadLine, IsUnendedLog};
-ghost use Rattle.asp_defs.specs.TextLaws.{TextsAreUnambiguous, TextsAreNotRefused, RefusalsAreUnique, ProgramsEnd};
+ghost use Rattle.asp_defs.specs.TextLaws.{TextsAreUnambiguous, TextsAreNotRefused, RefusalsAreUnique, ProgramsEnd, SafeVariablesAreLeast};
 ghost use Rattle.asp_defs.specs.TextExamples as texts;
 
 /// A text with a comment, a condition and few blanks is the text of its program.
@@ -50,4 +50,9 @@ pub fn texts_are_not_refused()
 /// No bytes have two refusals.
 pub fn refusals_are_unique()
     ensures { RefusalsAreUnique }
+{}
+
+/// The safe variables of a body are the least that its positive atoms and its equations close.
+pub fn safe_variables_are_least()
+    ensures { SafeVariablesAreLeast }
 {}
