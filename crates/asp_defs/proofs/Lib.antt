@@ -14,3 +14,4 @@ pub mod Unambiguous
 pub mod UnambiguousRules
 pub mod TextsApart
 pub mod SafetyLaws
+pub mod Pieces

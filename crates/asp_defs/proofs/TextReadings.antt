@@ -2,6 +2,7 @@
 use Rattle.std.proofs.Common.{ℕ, refl, inl, inr, List, [], ◌∷◌, drop}
 use Rattle.asp_defs.specs.Tokens.{Token, CommaToken, SemicolonToken, NameToken, token_list}
 use Rattle.asp_defs.specs.Grammar.{IsText, AtomAt, StatementAt}
+use Rattle.asp_defs.specs.Examples as ex
 use Rattle.asp_defs.specs.TextExamples as texts
 
 -- the tokens of the close text from one on
@@ -45,3 +46,47 @@ choice_is_read = (
 pub close_text_is_read : IsText texts.close_text texts.close_program
 close_text_is_read =
     (_, refl, ([], refl, ([], (rest 1, refl, (rest 8, rule_is_read, (rest 16, choice_is_read, refl))), refl), inl (refl, refl)))
+
+-- ---- the text with nameless variables
+
+-- its tokens from one on
+abbrev left : ℕ → List Token
+left k = drop k (token_list texts.nameless_text)
+
+fact_is_read : StatementAt texts.interval_fact (left 1) (left 8)
+fact_is_read = (refl, inl (_, refl, refl, (left 2, refl, inr (left 3, refl, refl))))
+
+nameless_is_read : StatementAt texts.nameless_rule (left 8) (left 20)
+nameless_is_read = (
+  refl,
+  inr (inl (
+    left 9,
+    (left 9, refl, inl (refl, refl)),
+    inr (
+      left 10,
+      refl,
+      (
+        CommaToken,
+        left 15,
+        refl,
+        (left 11, refl, inr (left 12, refl, refl)),
+        (left 16, refl, inr (left 17, refl, refl)),
+      ),
+    ),
+  )),
+)
+
+constraint_is_read : StatementAt (ex.denial []) (left 21) (left 23)
+constraint_is_read = (refl, inr (inr (left 22, refl, refl, refl)))
+
+pub nameless_text_is_read : IsText texts.nameless_text texts.nameless_program
+nameless_text_is_read = (
+  _,
+  refl,
+  (
+    left 20,
+    refl,
+    (left 20, (left 1, refl, (left 8, fact_is_read, (left 20, nameless_is_read, refl))), refl),
+    inr (left 21, refl, (left 23, constraint_is_read, refl)),
+  ),
+)

@@ -92,3 +92,17 @@ two_entries = ex.entry 2 [] true [] ∷ ex.entry 1 [] true [] ∷ []
 
 abbrev pub cube_entry : Entry
 cube_entry = ex.entry 2 (ex.literal 0 false ∷ ex.literal 1 true ∷ []) false (1 ∷ [])
+
+-- a text with an interval, two nameless variables and a constraint without literals, and its program
+abbrev pub nameless_text : List ℕ
+nameless_text = codes "%@forall p(1..2). q:-p(_),p(_). %@constraint :-."
+
+abbrev pub interval_fact : Rule
+interval_fact = ex.rule (ex.at (codes "p") (Range (pos 1) (pos 2)) ∷ []) []
+
+abbrev pub nameless_rule : Rule
+nameless_rule =
+    ex.rule (ex.prop (codes "q") ∷ []) (Pos (ex.at (codes "p") (Anon 1)) ∷ Pos (ex.at (codes "p") (Anon 2)) ∷ [])
+
+abbrev pub nameless_program : Program
+nameless_program = ex.program (ex.forall (interval_fact ∷ nameless_rule ∷ []) ∷ []) (ex.denial [] ∷ [])

@@ -1,5 +1,5 @@
 -- Laws of texts. All are transparent.
-use Rattle.std.specs.Prelude.{ℕ, ◌≡◌, IsTrue, List, [], ◌∷◌, ◌++◌}
+use Rattle.std.specs.Prelude.{ℕ, ◌<◌, ◌≤◌, ◌≡◌, IsTrue, List, [], ◌∷◌, ◌++◌, length, take, None, is_some}
 use Rattle.std.specs.List.{flat_map}
 use Rattle.asp_defs.specs.declared.faults.TextFault.{TextFault}
 use Rattle.asp_defs.specs.declared.syntax.Literal.{Literal}
@@ -7,7 +7,7 @@ use Rattle.asp_defs.specs.declared.syntax.Term.{Term}
 use Rattle.asp_defs.specs.declared.syntax.Program.{Program}
 use Rattle.asp_defs.specs.Lists.{IsIn}
 use Rattle.asp_defs.specs.Safety.{bound_by_atom, bound_by_equation, safe_variables}
-use Rattle.asp_defs.specs.Tokens.{Token}
+use Rattle.asp_defs.specs.Tokens.{Token, Piece, pieces, longest_front, shape_of}
 use Rattle.asp_defs.specs.Grammar.{IsProgram, IsText}
 use Rattle.asp_defs.specs.TextRefusals.{statement_after, IsRefused}
 
@@ -42,3 +42,21 @@ SafeVariablesAreLeast =
     (body : List Literal)
     → IsClosed body (safe_variables body)
     × ((vs : List Term) → IsClosed body vs → (v : Term) → IsIn v (safe_variables body) → IsIn v vs)
+
+-- the pieces of a text are the text
+abbrev pub PiecesAreTheText : Type 0
+PiecesAreTheText = (bytes : List ℕ) → flat_map (λ (p : Piece). p.bytes) (pieces bytes) ≡ bytes
+
+-- no front that is longer than the longest one is anything
+abbrev pub FrontsAreLongest : Type 0
+FrontsAreLongest =
+    (bytes : List ℕ) (len : ℕ)
+    → longest_front (length bytes) bytes < len → len ≤ length bytes → shape_of (take len bytes) ≡ None
+
+-- a front that is something, where no longer one is, is the longest
+abbrev pub LongestFrontIs : Type 0
+LongestFrontIs =
+    (bytes : List ℕ) (len : ℕ)
+    → 0 < len → len ≤ length bytes → IsTrue (is_some (shape_of (take len bytes)))
+    → ((more : ℕ) → len < more → more ≤ length bytes → shape_of (take more bytes) ≡ None)
+    → longest_front (length bytes) bytes ≡ len

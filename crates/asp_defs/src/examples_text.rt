@@ -123,6 +123,7 @@ pub fn logs()
     ensures cube { log_text texts.small_bases (texts.cube_entry ∷ []) ≡ codes "ASPQ-LOG 1\n2 F [not a, p(-2,b)] {p(-2,b)}\nLOG 1\n" }
     ensures stands { may_stand texts.small_bases texts.cube_entry ≡ true }
     ensures outside { may_stand texts.no_bases texts.cube_entry ≡ false }
+    ensures unheld { may_stand texts.small_bases (record texts.cube_entry { seed = [] }) ≡ false }
     ensures lines { byte_lines (codes "LOG 0\n\nx") ≡ codes "LOG 0\n" ∷ codes "\n" ∷ codes "x" ∷ [] }
 {}
 

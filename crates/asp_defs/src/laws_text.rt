@@ -5,12 +5,17 @@ ghost use Rattle.asp_defs.specs.declared.faults.TextFault.TheVariants as faults;
 ghost use Rattle.asp_defs.specs.Grammar.{IsText};
 ghost use Rattle.asp_defs.specs.TextRefusals.{IsRefused};
 ghost use Rattle.asp_defs.specs.LogText.{IsLogOf, IsBadLine, IsUnendedLog};
-ghost use Rattle.asp_defs.specs.TextLaws.{TextsAreUnambiguous, TextsAreNotRefused, RefusalsAreUnique, ProgramsEnd, SafeVariablesAreLeast};
+ghost use Rattle.asp_defs.specs.TextLaws.{PiecesAreTheText, FrontsAreLongest, LongestFrontIs, TextsAreUnambiguous, TextsAreNotRefused, RefusalsAreUnique, ProgramsEnd, SafeVariablesAreLeast};
 ghost use Rattle.asp_defs.specs.TextExamples as texts;
 
 /// A text with a comment, a condition and few blanks is the text of its program.
 pub fn a_text_of_its_program()
     ensures { IsText texts.close_text texts.close_program }
+{}
+
+/// A text with an interval, nameless variables and a constraint without literals is the text of its program.
+pub fn a_text_with_nameless_variables()
+    ensures { IsText texts.nameless_text texts.nameless_program }
 {}
 
 /// Each refusal of the grammar, of a text that has it.
@@ -55,4 +60,19 @@ pub fn refusals_are_unique()
 /// The safe variables of a body are the least that its positive atoms and its equations close.
 pub fn safe_variables_are_least()
     ensures { SafeVariablesAreLeast }
+{}
+
+/// The pieces of a text are the text.
+pub fn pieces_are_the_text()
+    ensures { PiecesAreTheText }
+{}
+
+/// No front that is longer than the longest one is anything.
+pub fn fronts_are_longest()
+    ensures { FrontsAreLongest }
+{}
+
+/// A front that is something, where no longer one is, is the longest.
+pub fn longest_front_is()
+    ensures { LongestFrontIs }
 {}
