@@ -7,6 +7,7 @@ use Rattle.asp_defs.specs.PlainTokens.{PlainToken, NameToken, ArrowToken, CommaT
 use Rattle.asp_defs.specs.PlainPrograms.{is_plain_literal, is_plain_rule}
 use Rattle.asp_defs.specs.PlainText.{literal_tokens, body_tokens, head_tokens, is_fact, AreStatements}
 
+-- whether a token is a comma, and a full stop
 abbrev pub is_comma : PlainToken → Bool
 is_comma CommaToken = true
 is_comma _ = false
@@ -49,6 +50,7 @@ IsRule ts r =
 abbrev pub AreRules : List PlainToken → List Rule → Type 0
 AreRules ts rules = IsTrue (list_all is_plain_rule rules) × AreStatements rules ts
 
+-- whether the first token is a name
 abbrev pub begins_with_name : List PlainToken → Bool
 begins_with_name (NameToken name ∷ ts) = true
 begins_with_name _ = false

@@ -22,6 +22,7 @@ tokens_of = map token_of
 abbrev pub IsFirst : PlainToken → List ℕ → List ℕ → Type 0
 IsFirst t bytes rest = IsTrue (is_formed t) × (bytes ≡ spelling t ++ rest) × IsTrue (ends_before t rest)
 
+-- whether the first byte is a small letter
 abbrev pub begins_lower : List ℕ → Bool
 begins_lower [] = false
 begins_lower (b ∷ bs) = is_lower b

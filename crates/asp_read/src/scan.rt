@@ -26,7 +26,7 @@ ghost use Rattle.asp_defs.specs.PlainTokens.{
   is_name_byte,
   ends_before,
 };
-ghost use Rattle.asp_read.specs.Tokens.{token_of, IsFirst, IsWord, begins_lower, IsWord, word_token};
+ghost use Rattle.asp_read.specs.Tokens.{token_of, IsFirst, IsWord, begins_lower, word_token};
 
 /// A token of a plain text. A name borrows its bytes.
 #[derive(Clone, Copy, Debug, Drop)]
@@ -46,6 +46,7 @@ pub fn is_blank(byte: u8) -> bool
     byte == b' ' || byte == b'\t' || byte == b'\n' || byte == b'\r'
 }
 
+/// Whether a byte is a small letter.
 fn is_lower(byte: u8) -> bool
     ensures { result ≡ is_lower byte }
 {
@@ -71,6 +72,7 @@ fn behind<'a>(bytes: &'a [u8], sign: &[u8]) -> Option<&'a [u8]>
     bytes.strip_prefix(sign)
 }
 
+/// Whether the first byte is a small letter.
 fn begins_lower(bytes: &[u8]) -> bool
     ensures { result ≡ begins_lower bytes.now }
 {
