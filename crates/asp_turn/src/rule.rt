@@ -8,7 +8,7 @@ use crate::view::View;
 use atomic_table::TableRule;
 use std::snapshot::Snapshot;
 
-// The table is told what the opening value was, since its world is the one world of all seats.
+/// The rule: the running turn. The table is told what the opening value was, since its world is the one world of all seats.
 pub struct OneTurn;
 
 impl<V: Kept> TableRule<Option<V>, View<V::World, V::Item>, Snapshot<V>> for OneTurn {

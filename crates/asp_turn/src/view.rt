@@ -1,6 +1,7 @@
-//! What a seat knows. No value of it is made: it stands in proofs alone.
+//! The view of a seat.
 use std::collections::LinkedList;
 
+/// What a seat knows. No value of it is made: it stands in proofs alone.
 pub struct View<W, I> {
     // The one world of all seats; none once the seat was joined into another.
     pub world: Option<W>,
