@@ -1,0 +1,67 @@
+-- Different numbers below a bound are at most as many as the bound.
+use Rattle.std.proofs.Common.{◌≡◌, ◌≢◌, ℕ, zero, suc, ◌+◌, ◌*◌, ◌/◌, ◌<◌, ◌≤◌, Bool, true, false, ◌||◌, eqb, List, [], ◌∷◌, length, get_or, map, sym, ◌∙◌, ap, arith, inl, inr}
+use Rattle.std.specs.List.{list_any}
+use Rattle.std.proofs.lemmas.List.{get_or-map, length-map, get_or_default}
+use Rattle.std.proofs.lemmas.Bool.{cases_Bool}
+use Rattle.std.proofs.Common.{Option}
+use Rattle.std.proofs.lemmas.Bool.Decides.{nat_tests}
+use Rattle.std.proofs.lemmas.Map.Steps.{length-le_from_distinct_below}
+use Rattle.std.proofs.lemmas.Map.Keys.{IsDistinct-from_apart}
+use Rattle.asp_clauses.specs.declared.trail.Step.{Step}
+use Rattle.asp_clauses.specs.Trail.{no_step, literal_at, IsUnassigned}
+use Rattle.asp_clauses.specs.Tables.{AreTables}
+
+below_any : (xs : List ℕ) (n q : ℕ) → ((i : ℕ) → i < length xs → get_or xs i 0 < n) → list_any (eqb q) xs ≡ true → q < n
+below_any [] n q h e = cc
+below_any (x ∷ xs) n q h e = elim (cases_Bool (eqb q x)) [
+  | inl t ↦ let b = h 0 (omega arith) in let s : q ≡ x = grind (arith, nat_tests) in omega arith
+  | inr f ↦ below_any xs n q (λ i l. h (suc i) (omega arith)) (sym (ap (λ (b : Bool). b || list_any (eqb q) xs) f) ∙ e)
+]
+
+apart : (x y : ℕ) → x ≢ y → eqb x y ≡ false
+apart x y h = grind (arith, nat_tests)
+
+pub distinct_few : (xs : List ℕ) (n : ℕ) → ((i : ℕ) → i < length xs → get_or xs i 0 < n) → ((i j : ℕ) → i < j → j < length xs → get_or xs i 0 ≢ get_or xs j 0) → length xs ≤ n
+distinct_few xs n below distinct = length-le_from_distinct_below xs n
+    (IsDistinct-from_apart eqb xs (λ i j d ij h.
+    apart (get_or xs i d) (get_or xs j d) (λ e. distinct i j ij h (get_or_default xs i 0 d (omega arith) ∙ e ∙ get_or_default xs j d 0 h))))
+    (λ q e. below_any xs n q below e)
+
+atom_at : (steps : List Step) (i : ℕ) → i < length steps → get_or (map (λ (s : Step). s.literal / 2) steps) i 0 ≡ literal_at steps i / 2
+atom_at steps i h = get_or-map (λ (s : Step). s.literal / 2) steps i no_step 0 h
+
+-- where an atom is unassigned, there are fewer steps than atoms
+pub unassigned_few : (atoms : ℕ) (steps : List Step) (literal : ℕ) → ((place : ℕ) → place < length steps → literal_at steps place < 2 * atoms) → ((p q : ℕ) → p < q → q < length steps → literal_at steps p / 2 ≢ literal_at steps q / 2) → literal < 2 * atoms → IsUnassigned steps literal → length steps < atoms
+unassigned_few atoms steps literal codes distinct code un =
+    let xs = map (λ (s : Step). s.literal / 2) steps in
+    let len : length xs ≡ length steps = length-map steps (λ (s : Step). s.literal / 2) in
+    let few = distinct_few ((literal / 2) ∷ xs) atoms
+    (λ i h. below literal steps atoms codes code i (omega (arith, len, h)))
+    (λ i j ij h. different literal steps distinct un i j ij (omega (arith, len, h))) in
+    omega (arith, few, len)
+  where
+    below : (literal : ℕ) (steps : List Step) (atoms : ℕ) → ((place : ℕ) → place < length steps → literal_at steps place < 2 * atoms) → literal < 2 * atoms → (i : ℕ) → i < length steps + 1 → get_or ((literal / 2) ∷ map (λ (s : Step). s.literal / 2) steps) i 0 < atoms
+    below literal steps atoms codes code zero h = omega arith
+    below literal steps atoms codes code (suc i) h = let e = atom_at steps i (omega arith) in let c = codes i (omega arith) in omega (arith, e, c)
+
+    different : (literal : ℕ) (steps : List Step) → ((p q : ℕ) → p < q → q < length steps → literal_at steps p / 2 ≢ literal_at steps q / 2) → IsUnassigned steps literal → (i j : ℕ) → i < j → j < length steps + 1 →
+        get_or ((literal / 2) ∷ map (λ (s : Step). s.literal / 2) steps) i 0 ≢ get_or ((literal / 2) ∷ map (λ (s : Step). s.literal / 2) steps) j 0
+    different literal steps distinct un i zero ij h e = absurd (omega arith)
+    different literal steps distinct un zero (suc j) ij h e = un j (omega arith) (sym (e ∙ atom_at steps j (omega arith)))
+    different literal steps distinct un (suc i) (suc j) ij h e = distinct i j (omega arith) (omega arith) (sym (atom_at steps i (omega arith)) ∙ e ∙ atom_at steps j (omega arith))
+
+pub steps_few : (atoms : ℕ) (steps : List Step) → ((place : ℕ) → place < length steps → literal_at steps place < 2 * atoms) → ((p q : ℕ) → p < q → q < length steps → literal_at steps p / 2 ≢ literal_at steps q / 2) → length steps ≤ atoms
+steps_few atoms steps codes distinct =
+    let xs = map (λ (s : Step). s.literal / 2) steps in
+    let len : length xs ≡ length steps = length-map steps (λ (s : Step). s.literal / 2) in
+    let few = distinct_few xs atoms
+    (λ i h. let e = atom_at steps i (omega (arith, len)) in let c = codes i (omega (arith, len)) in omega (arith, e, c))
+    (λ i j ij h e. distinct i j ij (omega (arith, len)) (sym (atom_at steps i (omega (arith, len))) ∙ e ∙ atom_at steps j (omega (arith, len)))) in
+    omega (arith, few, len)
+
+-- no atom twice, as the tables show
+pub tables_distinct : (atoms : ℕ) (steps : List Step) (truths : List (Option Bool)) (places depths : List ℕ) → AreTables atoms steps truths places depths → (p q : ℕ) → p < q → q < length steps → literal_at steps p / 2 ≢ literal_at steps q / 2
+tables_distinct atoms steps truths places depths t p q pq h e =
+    let a = t.positions p (omega arith) in let b = t.positions q h in
+    let same = ap (λ (x : ℕ). get_or places x 0) e in
+    omega (arith, a, b, same)

@@ -1,0 +1,11 @@
+pub mod LiteralLemmas
+pub mod RowsLemmas
+pub mod StepsLemmas
+pub mod NumberLemmas
+pub mod TableLemmas
+pub mod GoesLemmas
+pub mod FewLemmas
+pub mod FieldLemmas
+pub mod BackLemmas
+pub mod MarkLemmas
+pub mod StoreLemmas

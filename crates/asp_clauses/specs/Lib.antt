@@ -1,0 +1,9 @@
+pub mod Literal
+pub mod Trail
+pub mod Book
+pub mod Rows
+pub mod Records
+pub mod Watches
+pub mod Moves
+pub mod Tables
+pub mod TrailFields

@@ -1,0 +1,5 @@
+use Rattle.std.specs.Prelude.{ℕ, ◌+◌, ◌-◌, ◌%◌, ◌==◌, if◌then◌else◌}
+
+-- the other literal of the same atom
+unfoldable pub negated : ℕ → ℕ
+negated literal = if literal % 2 == 0 then literal + 1 else literal - 1

@@ -1,0 +1,40 @@
+//! Clauses under watch, and the trail of placed literals.
+//!
+//! # Idea
+//! - A literal is a code: `2 * atom + 1` for the atom, `2 * atom` for its negation.
+//! - A `Book` keeps clauses in one flat arena, a record each. A clause is looked at only where one of
+//!   the two literals that it watches became false.
+//! - The clauses that watch a literal form a list, whose links lie in the records: to move a watch
+//!   takes no memory.
+//! - A `Trail` is the list of the placed literals, each a decision or implied by a clause. It counts
+//!   its placements, and stops at a budget.
+//! - Read as digits in base 3, a decision as 1 and an implied literal as 2, the trail is a number
+//!   that every placement raises, also one that first goes back. So there are fewer than `3^n` of them.
+//!
+//! # Map
+//! | module | state or step |
+//! |---|---|
+//! | `literal` | the other literal of an atom |
+//! | `records` | the arena: a row of words for each clause |
+//! | `watches` | the lists of watching clauses: heads, links, how many clauses are watched |
+//! | `book` | the clauses as callers see them |
+//! | `trail` | placed literals, their values, places and levels, decisions, count and budget |
+#![tactic(auto)]
+
+mod book;
+mod literal;
+mod records;
+#[cfg(test)]
+mod tests;
+mod trail;
+mod watches;
+
+pub use book::Book;
+use std::alloc::AllocError;
+pub use trail::{Spent, Trail};
+
+/// Memory was refused, or a number that has to fit 32 bits is used up.
+pub type NoMemory = AllocError;
+
+/// The most atoms that a book or a trail is over.
+pub const MOST_ATOMS: u32 = 262_144;

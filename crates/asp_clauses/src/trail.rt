@@ -1,0 +1,368 @@
+//! The trail: literals in the order in which they were placed.
+
+ghost use Rattle.std.specs.Prelude.{◌≡◌, ◌≢◌, ◌↔◌, ℕ, ◌+◌, ◌-◌, ◌*◌, ◌/◌, ◌^◌, ◌<◌, ◌≤◌, [], ◌∷◌, ◌++◌, length, take, Some, None, false, IfOk, OnOk, OnErr, IsErr, IsTrue, slice_index_or};
+ghost use Rattle.asp_clauses.specs.Trail.{IsValue, IsUnassigned, IsPlaced, StandsAt, literal_at, step_at, level_at, decisions, number, Implies, clause_at, back_to, no_step, mark_at};
+ghost use Rattle.asp_clauses.specs.Book.{BookState, Goes, IsGuarded, visit_at};
+ghost use Rattle.asp_clauses.specs.Literal.{negated};
+ghost use Rattle.asp_clauses.specs.Moves.{Places, Lowers, NextVisit, placed, gone_back, IsCleared, IsOutside, lowered};
+
+use crate::NoMemory;
+use crate::book::Book;
+use crate::literal::negation;
+use std::alloc::Global;
+use std::marker::Model;
+
+/// A placed literal: a decision, or implied by the clause of this number.
+#[derive(Clone, Copy)]
+pub struct Step {
+    pub literal: u32,
+    pub reason: Option<u32>,
+}
+
+/// Where a decision stands, and how far propagation had come when it was placed.
+#[derive(Clone, Copy)]
+pub struct Mark {
+    pub start: u32,
+    pub head: u32,
+}
+
+/// As many literals were placed as the budget allows.
+#[derive(Debug, Clone, Copy, PartialEq, Eq)]
+pub struct Spent;
+
+/// The placed literals, each a decision or implied by a clause. A trail counts its placements, also
+/// those that it went back on, and stops where the count equals the budget.
+#[derive(Drop)]
+pub struct Trail {
+    atoms: u32,
+    budget: u64,
+    count: u64,
+    // The first `len` are the placed literals.
+    steps: Vec<Step>,
+    len: u32,
+    // For each code whether it is true; the origin is false.
+    values: Vec<Option<bool>>,
+    // For each assigned atom, one more than the place of its literal; 0 for the origin.
+    positions: Vec<u32>,
+    levels: Vec<u32>,
+    // The first `decisions` are those of the decisions in the trail.
+    marks: Vec<Mark>,
+    decisions: u32,
+    // How many visits propagation has done: of the origin, and of the literals that became false.
+    head: u32,
+}
+
+impl Model for Trail {
+    ghost use Rattle.asp_clauses.specs.Trail.{TrailState};
+
+    ghost Value = { TrailState };
+
+    ghost use Rattle.asp_clauses.specs.TrailFields.{state_of, IsSound};
+
+    ghost view = { state_of };
+
+    ghost invariant = { IsSound };
+}
+
+impl Trail {
+    /// An empty trail over the atoms below `atoms`, with all the memory that it will need.
+    pub fn new(alloc: Global, atoms: u32, budget: u64) -> Result<Trail, NoMemory>
+        requires { atoms ≤ 262144 }
+        ensures empty { IfOk result (λ trail. trail.steps ≡ []) }
+        ensures count { IfOk result (λ trail. trail.count ≡ 0) }
+        ensures atoms { IfOk result (λ trail. trail.atoms ≡ atoms) }
+        ensures budget { IfOk result (λ trail. trail.budget ≡ budget) }
+        ensures goes { IfOk result (λ trail. (book : BookState) → book.atoms ≡ atoms → Goes book trail) }
+    {
+        let codes = 2 * atoms as usize;
+        let mut values = vec![in alloc; None; codes + 1]?;
+        values[codes] = Some(false);
+        let unplaced = Step {
+            literal: 0,
+            reason: None,
+        };
+        let unmarked = Mark { start: 0, head: 0 };
+        Ok(Trail {
+            atoms,
+            budget,
+            count: 0,
+            steps: vec![in alloc; unplaced; atoms as usize]?,
+            len: 0,
+            values,
+            positions: vec![in alloc; 0; atoms as usize + 1]?,
+            levels: vec![in alloc; 0; atoms as usize]?,
+            marks: vec![in alloc; unmarked; atoms as usize]?,
+            decisions: 0,
+            head: 0,
+        })
+    }
+
+    /// Places the literal as a decision.
+    pub fn decide(&mut self, lit: u32) -> Result<(), Spent>
+        requires code { lit < 2 * self.old.atoms }
+        requires unassigned { IsUnassigned self.old.steps lit }
+        ensures spent { IsErr result ↔ (self.old.count ≡ self.old.budget) }
+        ensures placed { OnOk result (Places self.old self.new self.old.steps (record { literal = lit; reason = None })) }
+        ensures unchanged { OnErr result (self.new ≡ self.old) }
+        ensures goes { (book : BookState) → Goes book self.old → Goes book self.new }
+    {
+        if self.count == self.budget {
+            return Err(Spent);
+        }
+        self.place(Step {
+            literal: lit,
+            reason: None,
+        });
+        Ok(())
+    }
+
+    /// Places the literal, which the clause of the book implies.
+    pub fn imply(&mut self, book: &Book, lit: u32, clause: u32) -> Result<(), Spent>
+        requires goes { Goes book.now self.old }
+        requires code { lit < 2 * self.old.atoms }
+        requires unassigned { IsUnassigned self.old.steps lit }
+        requires clause { clause < length book.now.clauses }
+        requires implied { Implies self.old.steps (clause_at book.now.clauses clause) lit }
+        ensures spent { IsErr result ↔ (self.old.count ≡ self.old.budget) }
+        ensures placed { OnOk result
+            (Places self.old self.new self.old.steps (record { literal = lit; reason = Some clause })) }
+        ensures unchanged { OnErr result (self.new ≡ self.old) }
+        ensures goes { Goes book.now self.new }
+    {
+        let _ = book;
+        if self.count == self.budget {
+            return Err(Spent);
+        }
+        self.place(Step {
+            literal: lit,
+            reason: Some(clause),
+        });
+        Ok(())
+    }
+
+    /// Goes back to the first `level` decisions, and places the literal, which the clause of the book
+    /// then implies.
+    pub fn jump(&mut self, book: &Book, level: u32, lit: u32, clause: u32) -> Result<(), Spent>
+        requires goes { Goes book.now self.old }
+        requires level { level < decisions self.old.steps }
+        requires code { lit < 2 * self.old.atoms }
+        requires unassigned { IsUnassigned (back_to level self.old.steps) lit }
+        requires clause { clause < length book.now.clauses }
+        requires implied { Implies (back_to level self.old.steps) (clause_at book.now.clauses clause) lit }
+        ensures spent { IsErr result ↔ (self.old.count ≡ self.old.budget) }
+        ensures placed { OnOk result
+            (Places self.old self.new (back_to level self.old.steps) (record { literal = lit; reason = Some clause })) }
+        ensures unchanged { OnErr result (self.new ≡ self.old) }
+        ensures goes { Goes book.now self.new }
+    {
+        let _ = book;
+        if self.count == self.budget {
+            return Err(Spent);
+        }
+        self.go_back(level);
+        self.place(Step {
+            literal: lit,
+            reason: Some(clause),
+        });
+        Ok(())
+    }
+
+    /// Takes all literals back, and counts anew.
+    pub fn reset(&mut self)
+        ensures empty { self.new.steps ≡ [] }
+        ensures count { self.new.count ≡ 0 }
+        ensures atoms { self.new.atoms ≡ self.old.atoms }
+        ensures budget { self.new.budget ≡ self.old.budget }
+        ensures goes { (book : BookState) → book.atoms ≡ self.old.atoms → Goes book self.new }
+    {
+        clear_values(&mut self.values, &self.steps, 0, self.len);
+        self.len = 0;
+        self.decisions = 0;
+        self.head = 0;
+        self.count = 0;
+    }
+
+    /// How many literals were placed since the trail was made or reset.
+    pub fn count(&self) -> u64
+        ensures { result ≡ self.now.count }
+    {
+        self.count
+    }
+
+    /// Whether the literal is true; none where its atom is unassigned.
+    pub fn value(&self, lit: u32) -> Option<bool>
+        requires { lit < 2 * self.now.atoms }
+        ensures { IsValue self.now.steps lit result }
+    {
+        self.values[lit as usize]
+    }
+
+    /// How many literals are placed.
+    pub fn len(&self) -> u32
+        ensures value { result ≡ length self.now.steps }
+        ensures most { result ≤ self.now.atoms }
+    {
+        self.len
+    }
+
+    /// Whether no literal is placed.
+    pub fn is_empty(&self) -> bool
+        ensures { IsTrue result ↔ (self.now.steps ≡ []) }
+    {
+        self.len == 0
+    }
+
+    /// How many of the placed literals are decisions.
+    pub fn decisions(&self) -> u32
+        ensures { result ≡ decisions self.now.steps }
+    {
+        self.decisions
+    }
+
+    /// The literal at a place, from 0.
+    pub fn at(&self, place: u32) -> u32
+        requires { place < length self.now.steps }
+        ensures literal { result ≡ literal_at self.now.steps place }
+        ensures code { result < 2 * self.now.atoms }
+    {
+        self.steps[place as usize].literal
+    }
+
+    /// How many decisions are placed up to and with the atom's literal.
+    pub fn level(&self, atom: u32) -> u32
+        requires { (place : ℕ) × StandsAt self.now.steps atom place }
+        ensures { (place : ℕ) → StandsAt self.now.steps atom place → result ≡ level_at self.now.steps place }
+    {
+        self.levels[atom as usize]
+    }
+
+    /// The clause by which the atom's literal is implied; none where it is a decision.
+    pub fn reason(&self, atom: u32) -> Option<u32>
+        requires { (place : ℕ) × StandsAt self.now.steps atom place }
+        ensures { (place : ℕ) → StandsAt self.now.steps atom place → result ≡ (step_at self.now.steps place).reason }
+    {
+        self.steps[self.positions[atom as usize] as usize - 1].reason
+    }
+}
+
+/// What propagation needs besides. The origin counts as a literal that is false from the start.
+impl Trail {
+    /// Whether the budget is used up.
+    pub(crate) fn is_spent(&self) -> bool
+        ensures { IsTrue result ↔ (self.now.count ≡ self.now.budget) }
+    {
+        self.count == self.budget
+    }
+
+    /// Whether the literal or the origin is true; none where its atom is unassigned.
+    pub(crate) fn truth(&self, code: u32) -> Option<bool>
+        requires { code ≤ 2 * self.now.atoms }
+        ensures literal { code < 2 * self.now.atoms → IsValue self.now.steps code result }
+        ensures origin { code ≡ 2 * self.now.atoms → result ≡ Some false }
+    {
+        self.values[code as usize]
+    }
+
+    /// The visit of a literal that is false, or of the origin.
+    pub(crate) fn position(&self, code: u32) -> u32
+        requires code { code ≤ 2 * self.now.atoms }
+        requires fails { code < 2 * self.now.atoms → IsPlaced self.now.steps (negated code) }
+        ensures within { result ≤ length self.now.steps }
+        ensures visit { visit_at self.now.atoms self.now.steps result ≡ code }
+    {
+        self.positions[(code / 2) as usize]
+    }
+
+    /// What is to be visited next.
+    pub(crate) fn next_visit(&self) -> Option<u32>
+        ensures none { result ≡ None → self.now.head ≡ length self.now.steps + 1 }
+        ensures some { (code : ℕ) → result ≡ Some code → NextVisit self.now code }
+    {
+        if self.head == 0 {
+            return Some(2 * self.atoms);
+        }
+        if self.head > self.len {
+            return None;
+        }
+        Some(negation(self.steps[self.head as usize - 1].literal))
+    }
+
+    /// Counts the visit as done.
+    pub(crate) fn advance(&mut self)
+        requires { self.old.head ≤ length self.old.steps }
+        ensures { self.new ≡ record self.old { head = self.old.head + 1 } }
+    {
+        self.head += 1;
+    }
+
+    /// Has the visits from this one on done again, wherever a jump goes back to.
+    pub(crate) fn lower(&mut self, visit: u32)
+        ensures { Lowers self.old self.new visit }
+    {
+        lower_marks(&mut self.marks, self.decisions, visit);
+    }
+
+    /// Places a literal.
+    pub(crate) fn place(&mut self, step: Step)
+        requires code { step.literal < 2 * self.old.atoms }
+        requires unassigned { IsUnassigned self.old.steps step.literal }
+        requires unspent { self.old.count < self.old.budget }
+        ensures { self.new ≡ placed self.old step }
+    {
+        // The mark counts only where the step is a decision.
+        self.marks[self.decisions as usize] = Mark {
+            start: self.len,
+            head: self.head,
+        };
+        self.decisions += u32::from(step.reason.is_none());
+        let atom = (step.literal / 2) as usize;
+        self.values[step.literal as usize] = Some(true);
+        self.values[negation(step.literal) as usize] = Some(false);
+        self.positions[atom] = self.len + 1;
+        self.levels[atom] = self.decisions;
+        self.steps[self.len as usize] = step;
+        self.len += 1;
+        self.count += 1;
+    }
+
+    /// Takes back all literals from the decision after the first `level` on.
+    fn go_back(&mut self, level: u32)
+        requires { level < decisions self.old.steps }
+        ensures { self.new ≡ gone_back self.old level }
+    {
+        let mark = self.marks[level as usize];
+        clear_values(&mut self.values, &self.steps, mark.start, self.len);
+        self.len = mark.start;
+        self.decisions = level;
+        self.head = mark.head;
+    }
+}
+
+/// Unassigns the literals of these steps.
+fn clear_values(values: &mut [Option<bool>], steps: &[Step], from: u32, to: u32)
+    requires ordered { from ≤ to }
+    requires within { to ≤ length steps.now }
+    requires codes { (place : ℕ) → place < to → literal_at steps.now place + 1 < length values.old }
+    ensures cleared { (place : ℕ) → from ≤ place → place < to → IsCleared values.new (literal_at steps.now place) }
+    ensures others { (code : ℕ) → IsOutside steps.now from to code
+        → slice_index_or values.new code None ≡ slice_index_or values.old code None }
+{
+    for place in from..to {
+        let literal = steps[place as usize].literal;
+        values[literal as usize] = None;
+        values[negation(literal) as usize] = None;
+    }
+}
+
+/// Lowers the heads of the first marks to a visit; these heads never fall from one to the next.
+fn lower_marks(marks: &mut [Mark], count: u32, visit: u32)
+    requires within { count ≤ length marks.old }
+    requires ordered { (i j : ℕ) → i ≤ j → j < count → (mark_at marks.old i).head ≤ (mark_at marks.old j).head }
+    ensures { (level : ℕ) → level < count → mark_at marks.new level ≡ lowered visit (mark_at marks.old level) }
+{
+    let mut level = count as usize;
+    while level > 0 && marks[level - 1].head > visit {
+        level -= 1;
+        marks[level].head = visit;
+    }
+}
