@@ -41,7 +41,7 @@ fn answer(alloc: Global, bytes: &[u8]) -> Result<Vec<u8>, NoMemory> {
     match read(alloc, bytes) {
         Ok(program) => written(alloc, &program),
         Err(TextFault::NotPlain) => Vec::from_slice(alloc, b"refused"),
-        Err(TextFault::NoMemory) => Vec::from_slice(alloc, b"memory"),
+        Err(_) => Vec::from_slice(alloc, b"another fault"),
     }
 }
 
