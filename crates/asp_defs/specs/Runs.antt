@@ -1,6 +1,6 @@
 -- What a run of the program may say: its exit code and its output, by the words and the bytes of the text, in the order
 -- in which refusals come (of this project). All definitions are transparent.
-use Rattle.std.specs.Prelude.{ℕ, ◌≡◌, ◌<◌, ◌⊎◌, Bool, true, false, ◌==◌, ◌&&◌, is_none, IsTrue, List, [], ◌∷◌, ◌++◌, length, take, Option, None, Some, Ok, Err}
+use Rattle.std.specs.Prelude.{ℕ, ◌≡◌, ◌<◌, ◌⊎◌, Bool, true, false, ◌==◌, ◌&&◌, ◌||◌, is_none, IsTrue, List, [], ◌∷◌, ◌++◌, length, take, Option, None, Some, Ok, Err}
 use Rattle.std.specs.List.{list_any}
 use Rattle.asp_defs.specs.declared.faults.TextFault.{TextFault}
 use Rattle.asp_defs.specs.declared.faults.Unknown.{Unknown}
@@ -89,7 +89,7 @@ accepted_ending (ListTask tuning count word) p = list_ending (game_of p) word co
 accepted_ending CheckTask p = record { code = 0; output = program_text p }
 accepted_ending (DemoTask n) p =
     let page = page_of (game_of p) None 1
-    in record { code = 10; output = demo_head n (demo_text n) (game_of p).bases ++ demo_end page.sets (end_of page) }
+    in record { code = page_code true page.sets; output = demo_head n (demo_text n) (game_of p).bases ++ demo_end page.sets (end_of page) }
 
 -- the text that a command works on: the bytes that are read, and for `demo` the text that it makes
 abbrev pub text_of_task : Task → List ℕ → List ℕ
@@ -170,6 +170,24 @@ pub record OpenEnds (words : List (List ℕ)) (bytes : List ℕ) (ending : Endin
   pub code : ending.code ≡ 30
   pub output : ending.output ≡ open_output task program (take known page.sets) unknown
 
+-- whether words ask for the log, and whether an exit code is that of a refusal
+abbrev pub wants_log : List (List ℕ) → Bool
+wants_log words = elim (task_of_words words) [
+  | Ok (SolveTask tuning log) ↦ log
+  | Ok (ListTask tuning count word) ↦ false
+  | Ok CheckTask ↦ false
+  | Ok (DemoTask n) ↦ false
+  | Err number ↦ false
+]
+
+abbrev pub is_refusal : ℕ → Bool
+is_refusal code = (code == 2) || (code == 3)
+
+-- a run of words over bytes may end so without a log: where one is asked for, only by a refusal
+abbrev pub UnloggedEnds : List (List ℕ) → List ℕ → Ending → Type 0
+UnloggedEnds words bytes ending =
+    WordsEnd words bytes ending × (wants_log words ≡ true → is_refusal ending.code ≡ true)
+
 -- a defined ending of a run of words over bytes
 abbrev pub IsDefinedEnding : List (List ℕ) → List ℕ → Ending → Type 0
-IsDefinedEnding words bytes ending = WordsEnd words bytes ending ⊎ (LogEnds words bytes ending ⊎ OpenEnds words bytes ending)
+IsDefinedEnding words bytes ending = UnloggedEnds words bytes ending ⊎ (LogEnds words bytes ending ⊎ OpenEnds words bytes ending)

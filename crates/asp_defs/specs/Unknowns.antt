@@ -1,6 +1,6 @@
 -- Answers that stay open since a budget was spent: which are possible for a run, and which the run's evidence shows (of
 -- this project). All definitions are transparent.
-use Rattle.std.specs.Prelude.{ℕ, ◌+◌, ◌-◌, ◌*◌, ◌^◌, Bool, true, ◌==◌, ◌&&◌, nat_lt, nat_le, List, slice_index}
+use Rattle.std.specs.Prelude.{ℕ, ◌+◌, ◌-◌, ◌*◌, ◌^◌, Bool, true, ◌==◌, ◌&&◌, nat_lt, nat_le, List, ◌∷◌, slice_index}
 use Rattle.std.specs.List.{list_any, sum_by}
 use Rattle.asp_defs.specs.declared.faults.Kind.{Kind}
 use Rattle.asp_defs.specs.declared.faults.Kind.TheVariants.{Search, Minimal, Store}
@@ -46,11 +46,11 @@ pub record Evidence : Type 0 where
   pub checks : List ℕ
   pub refusals : List ℕ
 
--- how often a kind of search was spent at a level
+-- how often a kind of search was spent at a level from 1 on
 abbrev pub spent_count : Evidence → Kind → ℕ → ℕ
-spent_count used Search level = slice_index used.searches (level - 1)
-spent_count used Minimal level = slice_index used.checks (level - 1)
-spent_count used Store level = slice_index used.refusals (level - 1)
+spent_count used Search level = slice_index (0 ∷ used.searches) level
+spent_count used Minimal level = slice_index (0 ∷ used.checks) level
+spent_count used Store level = slice_index (0 ∷ used.refusals) level
 
 -- whether an entry of the fullest size would pass the cells of a history
 abbrev pub is_full : Evidence → ℕ → Bool
