@@ -1,11 +1,11 @@
 -- Tables of a trail that goes back to its first steps.
-use Rattle.std.proofs.Common.{◌≡◌, ◌≢◌, ℕ, ◌+◌, ◌*◌, ◌/◌, ◌<◌, ◌≤◌, Bool, true, false, List, length, get_or, take, refl, sym, ◌∙◌, ap, arith, inl, inr, subst, Option, Some, None}
+use Rattle.std.proofs.Common.{◌≡◌, ◌≢◌, ℕ, zero, suc, ◌+◌, ◌-◌, ◌*◌, ◌/◌, ◌<◌, ◌≤◌, ◌⊎◌, Bool, true, false, List, [], ◌∷◌, ◌++◌, length, get_or, take, refl, sym, ◌∙◌, ap, arith, inl, inr, subst, Option, Some, None}
 use Rattle.std.proofs.lemmas.List.{take-take, length-take-le}
-use Rattle.std.proofs.lemmas.Bool.{cases_lt}
+use Rattle.std.proofs.lemmas.Bool.{cases_lt, cases_eq}
 use Rattle.std.proofs.lemmas.Bool.{cases_order}
 use Rattle.asp_clauses.specs.declared.trail.Step.{Step}
 use Rattle.asp_clauses.specs.Literal.{negated}
-use Rattle.asp_clauses.specs.Trail.{literal_at, decisions, IsPlaced, IsValue}
+use Rattle.asp_clauses.specs.Trail.{no_step, step_at, literal_at, decisions, IsPlaced, IsUnassigned, IsValue}
 use Rattle.asp_clauses.specs.Tables.{AreTables}
 use Rattle.asp_clauses.specs.Moves.{IsCleared}
 use Rattle.asp_clauses.proofs.LiteralLemmas.{negated-half, negated-negated}

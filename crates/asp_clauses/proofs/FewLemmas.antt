@@ -1,15 +1,19 @@
 -- Different numbers below a bound are at most as many as the bound.
-use Rattle.std.proofs.Common.{◌≡◌, ◌≢◌, ℕ, zero, suc, ◌+◌, ◌*◌, ◌/◌, ◌<◌, ◌≤◌, Bool, true, false, ◌||◌, eqb, List, [], ◌∷◌, length, get_or, map, sym, ◌∙◌, ap, arith, inl, inr}
-use Rattle.std.specs.List.{list_any}
+use Rattle.std.proofs.Common.{◌≡◌, ◌≢◌, ℕ, zero, suc, ◌+◌, ◌-◌, ◌*◌, ◌/◌, ◌<◌, ◌≤◌, ◌⊎◌, Bool, true, false, ◌||◌, eqb, List, [], ◌∷◌, length, get_or, map, refl, sym, ◌∙◌, ap, arith, inl, inr, subst}
+use Rattle.std.specs.List.{list_any, IsDistinct}
 use Rattle.std.proofs.lemmas.List.{get_or-map, length-map, get_or_default}
-use Rattle.std.proofs.lemmas.Bool.{cases_Bool}
+use Rattle.std.proofs.lemmas.Bool.{cases_Bool, cases_order}
 use Rattle.std.proofs.Common.{Option}
 use Rattle.std.proofs.lemmas.Bool.Decides.{nat_tests}
 use Rattle.std.proofs.lemmas.Map.Steps.{length-le_from_distinct_below}
 use Rattle.std.proofs.lemmas.Map.Keys.{IsDistinct-from_apart}
 use Rattle.asp_clauses.specs.declared.trail.Step.{Step}
-use Rattle.asp_clauses.specs.Trail.{no_step, literal_at, IsUnassigned}
+use Rattle.asp_clauses.specs.Trail.{no_step, step_at, literal_at, IsUnassigned, IsPlaced, IsValue, IsLawful}
+use Rattle.asp_clauses.specs.Literal.{negated}
+use Rattle.asp_clauses.proofs.LiteralLemmas.{negated-half, negated-≢}
 use Rattle.asp_clauses.specs.Tables.{AreTables}
+use Rattle.asp_clauses.proofs.TableLemmas.{value_read, not_origin}
+use Rattle.std.proofs.Common.{Some, None}
 
 below_any : (xs : List ℕ) (n q : ℕ) → ((i : ℕ) → i < length xs → get_or xs i 0 < n) → list_any (eqb q) xs ≡ true → q < n
 below_any [] n q h e = cc
@@ -65,3 +69,28 @@ tables_distinct atoms steps truths places depths t p q pq h e =
     let a = t.positions p (omega arith) in let b = t.positions q h in
     let same = ap (λ (x : ℕ). get_or places x 0) e in
     omega (arith, a, b, same)
+
+-- no literal is true and false
+pub not_both : (steps : List Step) (literal : ℕ) → ((p q : ℕ) → p < q → q < length steps → literal_at steps p / 2 ≢ literal_at steps q / 2) → IsPlaced steps literal → IsPlaced steps (negated literal) → ⊥
+not_both steps literal d a b =
+    let same : literal_at steps a.0 / 2 ≡ literal_at steps b.0 / 2 = ap (λ (x : ℕ). x / 2) a.2 ∙ sym (negated-half literal) ∙ sym (ap (λ (x : ℕ). x / 2) b.2) in
+    elim (cases_order a.0 b.0) [
+      | inl e ↦ negated-≢ literal (sym b.2 ∙ sym (ap (literal_at steps) e) ∙ a.2)
+      | inr differ ↦ elim differ [ inl lt ↦ d a.0 b.0 lt b.1 same | inr gt ↦ d b.0 a.0 gt a.1 (sym same) ]
+    ]
+
+-- an unassigned atom has no placed literal
+pub not_placed : (steps : List Step) (literal other : ℕ) → IsUnassigned steps literal → other / 2 ≡ literal / 2 → IsPlaced steps other → ⊥
+not_placed steps literal other u e p = u p.0 p.1 (ap (λ (x : ℕ). x / 2) p.2 ∙ e)
+
+-- a literal whose value isn't false has no false literal in the trail
+pub stands_read : (atoms : ℕ) (steps now : List Step) (truths : List (Option Bool)) (places depths : List ℕ) (code : ℕ) (r : Option Bool) → AreTables atoms steps truths places depths → steps ≡ now → length truths ≡ 2 * atoms + 1 → code ≤ 2 * atoms → r ≡ get_or truths code r → (r ≡ Some false → ⊥) → IsPlaced now (negated code) → ⊥
+stands_read atoms steps now truths places depths code r t e l h read no_false =
+    let lt = not_origin atoms steps truths places depths code r t l h read no_false in
+    let d = tables_distinct atoms steps truths places depths t in
+    go r (value_read atoms steps now truths places depths code r t e l lt read) (subst (λ (x : List Step). (p q : ℕ) → p < q → q < length x → literal_at x p / 2 ≢ literal_at x q / 2) e d) no_false
+  where
+    go : (r : Option Bool) → IsValue now code r → ((p q : ℕ) → p < q → q < length now → literal_at now p / 2 ≢ literal_at now q / 2) → (r ≡ Some false → ⊥) → IsPlaced now (negated code) → ⊥
+    go None v d n = not_placed now code (negated code) (v.unassigned refl) (negated-half code)
+    go (Some true) v d n = not_both now code d (v.holds refl)
+    go (Some false) v d n = λ p. n refl

@@ -8,4 +8,15 @@ pub mod FewLemmas
 pub mod FieldLemmas
 pub mod BackLemmas
 pub mod MarkLemmas
+pub mod ListLemmas
 pub mod StoreLemmas
+pub mod WatchLemmas
+pub mod MoveLemmas
+pub mod UnlinkLemmas
+pub mod MovedLemmas
+pub mod ChoiceLemmas
+pub mod ReorderLemmas
+pub mod ExamineLemmas
+pub mod VisitLemmas
+pub mod WalkLemmas
+pub mod RunLemmas

@@ -1,12 +1,12 @@
 -- Tables and marks of a trail, where one more literal is placed.
-use Rattle.std.proofs.Common.{◌≡◌, ◌≢◌, ℕ, suc, ◌+◌, ◌-◌, ◌*◌, ◌/◌, ◌<◌, ◌≤◌, ◌⊎◌, Bool, true, false, cond, List, [], ◌∷◌, ◌++◌, length, get_or, set, take, refl, sym, ◌∙◌, ap, arith, inl, inr, subst, Option, Some, None, length-set, add-one, not, lit≤}
-use Rattle.std.proofs.lemmas.List.{length_push, get_or_append_left, get_or_push, take-append-le, take_all, get_or-set_same, get_or-set_other, get_or_read, take_more_set, take-set-le, set_past, get_or_past}
+use Rattle.std.proofs.Common.{◌≡◌, ◌≢◌, ℕ, zero, suc, ◌+◌, ◌-◌, ◌*◌, ◌/◌, ◌<◌, ◌≤◌, ◌⊎◌, Bool, true, false, cond, List, [], ◌∷◌, ◌++◌, length, get_or, set, take, refl, sym, ◌∙◌, ap, arith, inl, inr, subst, Option, Some, None, is_none, length-set, add-one, not, lit≤}
+use Rattle.std.proofs.lemmas.List.{length_push, get_or_append_left, get_or_push, take-append-le, take_all, get_or-take, length-take-le, take-take, get_or-set_same, get_or-set_other, get_or_read, take_more_set, take-set-le, set_past, get_or_past}
 use Rattle.std.proofs.lemmas.Bool.{cases_lt, cases_Bool, cases_eq}
 use Rattle.std.specs.Int.{from_bool}
 use Rattle.asp_clauses.specs.declared.trail.Step.{Step}
 use Rattle.asp_clauses.specs.declared.trail.Mark.{Mark}
 use Rattle.asp_clauses.specs.Literal.{negated}
-use Rattle.asp_clauses.specs.Trail.{step_at, literal_at, no_mark, mark_at, is_decision, decisions, IsPlaced, IsUnassigned, IsValue}
+use Rattle.asp_clauses.specs.Trail.{no_step, step_at, literal_at, no_mark, mark_at, is_decision, decisions, level_at, IsPlaced, IsUnassigned, IsValue}
 use Rattle.asp_clauses.specs.Tables.{AreTables, IsMark, AreMarks}
 use Rattle.asp_clauses.specs.Book.{visit_at}
 use Rattle.asp_clauses.specs.Moves.{IsCleared, IsOutside}
@@ -278,3 +278,40 @@ ClearedTo-more steps before now from to h c = record {
   ];
   kept = λ code o. cleared_others now (literal_at steps to) code (o to h (omega arith)) ∙ c.kept code (λ place a b. o place a (omega arith));
 }
+
+-- what else a value tells
+pub true_read : (atoms : ℕ) (steps now : List Step) (truths : List (Option Bool)) (places depths : List ℕ) (code : ℕ) (r : Option Bool) → AreTables atoms steps truths places depths → steps ≡ now → length truths ≡ 2 * atoms + 1 → code ≤ 2 * atoms → r ≡ get_or truths code r → r ≡ Some true → IsPlaced now code
+true_read atoms steps now truths places depths code r t e l h read is = elim (cases_lt code (2 * atoms)) [
+  | inl lt ↦ (value_read atoms steps now truths places depths code r t e l lt read).holds is
+  | inr ge ↦
+      let end_is : code ≡ 2 * atoms = omega arith in
+      let v : r ≡ Some false = get_or_read truths code r (omega arith) read None ∙ ap (λ (x : ℕ). get_or truths x None) end_is ∙ t.origin_value in
+      let w = sym is ∙ v in cc
+]
+
+pub open_read : (atoms : ℕ) (steps now : List Step) (truths : List (Option Bool)) (places depths : List ℕ) (code : ℕ) (r : Option Bool) → AreTables atoms steps truths places depths → steps ≡ now → length truths ≡ 2 * atoms + 1 → code < 2 * atoms → r ≡ get_or truths code r → (r ≡ Some true → ⊥) → IsUnassigned now code ⊎ IsPlaced now (negated code)
+open_read atoms steps now truths places depths code r t e l h read no_true = go r (value_read atoms steps now truths places depths code r t e l h read) no_true
+  where
+    go : (r : Option Bool) → IsValue now code r → (r ≡ Some true → ⊥) → IsUnassigned now code ⊎ IsPlaced now (negated code)
+    go None v n = inl (v.unassigned refl)
+    go (Some true) v n = absurd (n refl)
+    go (Some false) v n = inr (v.fails refl)
+
+pub not_origin : (atoms : ℕ) (steps : List Step) (truths : List (Option Bool)) (places depths : List ℕ) (code : ℕ) (r : Option Bool) → AreTables atoms steps truths places depths → length truths ≡ 2 * atoms + 1 → code ≤ 2 * atoms → r ≡ get_or truths code r → (r ≡ Some false → ⊥) → code < 2 * atoms
+not_origin atoms steps truths places depths code r t l h read no_false = elim (cases_lt code (2 * atoms)) [
+  | inl lt ↦ lt
+  | inr ge ↦
+      let end_is : code ≡ 2 * atoms = omega arith in
+      absurd (no_false (get_or_read truths code r (omega arith) read None ∙ ap (λ (x : ℕ). get_or truths x None) end_is ∙ t.origin_value))
+]
+
+-- the position of a literal is its only visit
+pub position_only : (atoms : ℕ) (steps : List Step) (truths : List (Option Bool)) (places depths : List ℕ) (code r : ℕ) → AreTables atoms steps truths places depths → length places ≡ atoms + 1 → code ≤ 2 * atoms → r ≡ get_or places (code / 2) r → (visit : ℕ) → visit ≤ length steps → visit_at atoms steps visit ≡ code → visit ≡ r
+position_only atoms steps truths places depths code r t l h read zero v e =
+    let same : r ≡ get_or places (code / 2) 0 = get_or_read places (code / 2) r (omega arith) read 0 in
+    let half : code / 2 ≡ atoms = omega (arith, e) in
+    sym (same ∙ ap (λ (x : ℕ). get_or places x 0) half ∙ t.origin_position)
+position_only atoms steps truths places depths code r t l h read (suc place) v e =
+    let same : r ≡ get_or places (code / 2) 0 = get_or_read places (code / 2) r (omega arith) read 0 in
+    let half : literal_at steps place / 2 ≡ code / 2 = sym (negated-half (literal_at steps place)) ∙ ap (λ (x : ℕ). x / 2) e in
+    sym (same ∙ sym (ap (λ (x : ℕ). get_or places x 0) half) ∙ t.positions place (omega arith) ∙ add-one place)

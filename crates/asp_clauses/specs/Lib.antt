@@ -7,3 +7,5 @@ pub mod Watches
 pub mod Moves
 pub mod Tables
 pub mod TrailFields
+pub mod Visits
+pub mod Choices

@@ -1,9 +1,9 @@
 -- How the calls of a trail change it.
-use Rattle.std.specs.Prelude.{◌≡◌, ◌≢◌, ℕ, ◌+◌, ◌*◌, ◌/◌, ◌<◌, ◌≤◌, min, Bool, List, [], ◌∷◌, ◌++◌, length, take, Option, None, slice_index_or, if◌then◌else◌}
+use Rattle.std.specs.Prelude.{◌≡◌, ◌≢◌, ℕ, ◌+◌, ◌*◌, ◌/◌, ◌<◌, ◌≤◌, ◌⊎◌, min, Bool, List, [], ◌∷◌, ◌++◌, length, take, Option, None, slice_index_or, if◌then◌else◌}
 use Rattle.asp_clauses.specs.declared.trail.Step.{Step}
 use Rattle.asp_clauses.specs.declared.trail.Mark.{Mark}
 use Rattle.asp_clauses.specs.Literal.{negated}
-use Rattle.asp_clauses.specs.Trail.{TrailState, mark_at, literal_at, is_decision, back_to}
+use Rattle.asp_clauses.specs.Trail.{TrailState, mark_at, literal_at, is_decision, back_to, IsPlaced, IsUnassigned}
 use Rattle.asp_clauses.specs.Book.{visit_at}
 
 -- the trail is these steps and one more, and one more placement was counted
@@ -40,13 +40,15 @@ pub record NextVisit (trail : TrailState) (code : ℕ) : Type 0 where
 abbrev pub lowered : ℕ → Mark → Mark
 lowered visit mark = record { start = mark.start; head = min mark.head visit }
 
--- no mark has more visits than before, nor more than up to this one
+-- no mark has more visits than up to this one
 pub record Lowers (old new : TrailState) (visit : ℕ) : Type 0 where
   pub others : new ≡ record old { marks = new.marks }
   pub as_many : length new.marks ≡ length old.marks
-  pub start : (level : ℕ) → level < length old.marks → (mark_at new.marks level).start ≡ (mark_at old.marks level).start
-  pub fewer : (level : ℕ) → level < length old.marks → (mark_at new.marks level).head ≤ (mark_at old.marks level).head
-  pub low : (level : ℕ) → level < length old.marks → (mark_at new.marks level).head ≤ visit
+  pub low : (level : ℕ) → level < length old.marks → mark_at new.marks level ≡ lowered visit (mark_at old.marks level)
+
+-- the literal isn't true: it is false or the origin, or its atom is unassigned
+abbrev pub IsOpen : TrailState → ℕ → Type 0
+IsOpen trail code = code < 2 * trail.atoms → IsUnassigned trail.steps code ⊎ IsPlaced trail.steps (negated code)
 
 -- both literals of the atom are unassigned
 pub record IsCleared (values : List (Option Bool)) (literal : ℕ) : Type 0 where

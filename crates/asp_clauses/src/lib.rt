@@ -19,10 +19,14 @@
 //! | `watches` | the lists of watching clauses: heads, links, how many clauses are watched |
 //! | `book` | the clauses as callers see them |
 //! | `trail` | placed literals, their values, places and levels, decisions, count and budget |
+//! | `examine` | the first look at a new clause: it chooses what to watch |
+//! | `propagation` | places implied literals until none is left, a clause is false, or the budget is spent |
 #![tactic(auto)]
 
 mod book;
+mod examine;
 mod literal;
+mod propagation;
 mod records;
 #[cfg(test)]
 mod tests;
@@ -30,6 +34,7 @@ mod trail;
 mod watches;
 
 pub use book::Book;
+pub use propagation::propagate;
 use std::alloc::AllocError;
 pub use trail::{Spent, Trail};
 

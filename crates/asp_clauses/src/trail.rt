@@ -1,10 +1,10 @@
 //! The trail: literals in the order in which they were placed.
 
-ghost use Rattle.std.specs.Prelude.{◌≡◌, ◌≢◌, ◌↔◌, ℕ, ◌+◌, ◌-◌, ◌*◌, ◌/◌, ◌^◌, ◌<◌, ◌≤◌, [], ◌∷◌, ◌++◌, length, take, Some, None, false, IfOk, OnOk, OnErr, IsErr, IsTrue, slice_index_or};
+ghost use Rattle.std.specs.Prelude.{◌≡◌, ◌≢◌, ◌↔◌, ℕ, ◌+◌, ◌-◌, ◌*◌, ◌/◌, ◌^◌, ◌<◌, ◌≤◌, [], ◌∷◌, ◌++◌, length, take, Some, None, true, false, IfOk, OnOk, OnErr, IsErr, IsTrue, slice_index_or};
 ghost use Rattle.asp_clauses.specs.Trail.{IsValue, IsUnassigned, IsPlaced, StandsAt, literal_at, step_at, level_at, decisions, number, Implies, clause_at, back_to, no_step, mark_at};
 ghost use Rattle.asp_clauses.specs.Book.{BookState, Goes, IsGuarded, visit_at};
 ghost use Rattle.asp_clauses.specs.Literal.{negated};
-ghost use Rattle.asp_clauses.specs.Moves.{Places, Lowers, NextVisit, placed, gone_back, IsCleared, IsOutside, lowered};
+ghost use Rattle.asp_clauses.specs.Moves.{Places, Lowers, NextVisit, placed, gone_back, IsCleared, IsOutside, lowered, IsOpen};
 
 use crate::NoMemory;
 use crate::book::Book;
@@ -249,18 +249,35 @@ impl Trail {
 impl Trail {
     /// Whether the budget is used up.
     pub(crate) fn is_spent(&self) -> bool
-        ensures { IsTrue result ↔ (self.now.count ≡ self.now.budget) }
+        ensures spent { result ≡ true → self.now.count ≡ self.now.budget }
+        ensures room { result ≡ false → self.now.count < self.now.budget }
     {
         self.count == self.budget
     }
 
-    /// Whether the literal or the origin is true; none where its atom is unassigned.
-    pub(crate) fn truth(&self, code: u32) -> Option<bool>
+    /// Whether the literal is true.
+    pub(crate) fn is_true(&self, code: u32) -> bool
         requires { code ≤ 2 * self.now.atoms }
-        ensures literal { code < 2 * self.now.atoms → IsValue self.now.steps code result }
-        ensures origin { code ≡ 2 * self.now.atoms → result ≡ Some false }
+        ensures holds { result ≡ true → IsPlaced self.now.steps code }
+        ensures other { result ≡ false → IsOpen self.now code }
     {
-        self.values[code as usize]
+        match self.values[code as usize] {
+            Some(truth) => truth,
+            None => false,
+        }
+    }
+
+    /// Whether the literal is false.
+    pub(crate) fn is_false(&self, code: u32) -> bool
+        requires { code ≤ 2 * self.now.atoms }
+        ensures fails { result ≡ true → code < 2 * self.now.atoms → IsPlaced self.now.steps (negated code) }
+        ensures other { result ≡ false → code < 2 * self.now.atoms }
+        ensures stands { result ≡ false → IsPlaced self.now.steps (negated code) → ⊥ }
+    {
+        match self.values[code as usize] {
+            Some(truth) => !truth,
+            None => false,
+        }
     }
 
     /// The visit of a literal that is false, or of the origin.
@@ -269,6 +286,8 @@ impl Trail {
         requires fails { code < 2 * self.now.atoms → IsPlaced self.now.steps (negated code) }
         ensures within { result ≤ length self.now.steps }
         ensures visit { visit_at self.now.atoms self.now.steps result ≡ code }
+        ensures only { (visit : ℕ) → visit ≤ length self.now.steps
+            → visit_at self.now.atoms self.now.steps visit ≡ code → visit ≡ result }
     {
         self.positions[(code / 2) as usize]
     }

@@ -4,10 +4,12 @@
 //! the next clause lies in the record of the clause before it.
 
 ghost use Rattle.std.specs.Prelude.{◌≡◌, ◌≢◌, ℕ, ◌+◌, ◌-◌, ◌*◌, ◌<◌, ◌≤◌, ◌⊎◌, List, [], length, slice_index, slice_index_or, slice_set, OnErr, IfOk};
-ghost use Rattle.asp_clauses.specs.Watches.{AreWatches};
+ghost use Rattle.asp_clauses.specs.Watches.{AreWatches, IsListed, IsStore, side_of, link_of, WatchingBelow, Watching};
+ghost use Rattle.asp_clauses.specs.Records.{row_at, end};
+ghost use Rattle.asp_clauses.specs.Visits.{IsAt, MovesWatch, Links, Unlinks, WatchesOneMore, moved, other_watch};
 
 use crate::NoMemory;
-use crate::records::{END, Records};
+use crate::records::{END, LINKS, LITERALS, Records};
 use std::alloc::Global;
 
 /// Clauses, and which of them are watched.
@@ -36,5 +38,102 @@ impl Watches {
             heads: vec![in alloc; END; 2 * atoms as usize + 1]?,
             watched: 0,
         })
+    }
+
+    /// Which of the clause's two watches the literal is.
+    pub fn side(&self, clause: u32, literal: u32) -> usize
+        requires store { IsStore self.now }
+        requires clause { clause < length self.now.records }
+        ensures { result ≡ side_of (row_at self.now.records clause) literal }
+    {
+        if self.records.cell(clause, LITERALS) == literal {
+            0
+        } else {
+            1
+        }
+    }
+
+    /// The literal that the clause watches besides this one.
+    pub fn other(&self, clause: u32, literal: u32) -> u32
+        requires store { IsStore self.now }
+        requires clause { clause < length self.now.records }
+        ensures { result ≡ other_watch (row_at self.now.records clause) literal }
+    {
+        self.records
+            .cell(clause, LITERALS + 1 - self.side(clause, literal))
+    }
+
+    /// The clause after this one in the list of the literal.
+    pub fn next(&self, clause: u32, literal: u32) -> u32
+        requires store { IsStore self.now }
+        requires clause { clause < length self.now.records }
+        ensures { result ≡ link_of self.now.records literal clause }
+    {
+        self.records
+            .cell(clause, LINKS + self.side(clause, literal))
+    }
+
+    /// Puts the clause at the front of the list of one of its watches.
+    fn link(&mut self, clause: u32, side: usize)
+        requires store { IsStore self.old }
+        requires clause { clause < length self.old.records }
+        requires side { side < 2 }
+        ensures { Links self.old self.new clause side }
+    {
+        let literal = self.records.cell(clause, LITERALS + side) as usize;
+        self.records
+            .set_cell(clause, LINKS + side, self.heads[literal]);
+        self.heads[literal] = clause;
+    }
+
+    /// Takes the clause out of the list of the literal, where it comes after `previous`.
+    fn unlink(&mut self, previous: u32, clause: u32, literal: u32)
+        requires store { IsStore self.old }
+        requires clause { clause < length self.old.records }
+        requires previous { previous < length self.old.records ⊎ (previous ≡ end) }
+        requires code { literal ≤ 2 * self.old.atoms }
+        ensures { Unlinks self.old self.new previous clause literal }
+    {
+        let next = self.next(clause, literal);
+        if previous == END {
+            self.heads[literal as usize] = next;
+        } else {
+            let side = self.side(previous, literal);
+            self.records.set_cell(previous, LINKS + side, next);
+        }
+    }
+
+    /// Has the next clause watched, which stands in no list so far.
+    pub fn watch(&mut self)
+        requires watches { AreWatches self.old }
+        requires left { self.old.watched < length self.old.records }
+        requires size { 0 < slice_index (row_at self.old.records self.old.watched) 0 }
+        ensures watches { AreWatches self.new }
+        ensures one_more { WatchesOneMore self.old self.new }
+    {
+        let clause = self.watched;
+        self.link(clause, 0);
+        self.link(clause, 1);
+        self.watched += 1;
+    }
+
+    /// Has the clause watch the literal at this index in place of one that became false.
+    pub fn move_watch(&mut self, previous: u32, clause: u32, falsified: u32, index: u32)
+        requires watches { AreWatches self.old }
+        requires clause { WatchingBelow self.old.records self.old.watched falsified clause }
+        requires code { falsified ≤ 2 * self.old.atoms }
+        requires previous { previous < length self.old.records ⊎ (previous ≡ end) }
+        requires unwatched { 2 ≤ index }
+        requires index { index < slice_index (row_at self.old.records clause) 0 }
+        ensures store { IsStore self.new }
+        ensures clause { MovesWatch self.old self.new clause falsified index }
+        ensures listed { (lists : ℕ → List ℕ) (k : ℕ) → IsListed self.old lists → IsAt lists falsified k previous clause
+            → IsListed self.new (moved lists clause falsified k (slice_index (row_at self.old.records clause) (3 + index))) }
+    {
+        let side = self.side(clause, falsified);
+        self.unlink(previous, clause, falsified);
+        self.records
+            .swap(clause, LITERALS + side, LITERALS + index as usize);
+        self.link(clause, side);
     }
 }
