@@ -10,7 +10,7 @@ use Rattle.std.proofs.Math.Nat.{mul-le-mul_right, two-pow-succ}
 use Rattle.asp_defs.specs.declared.ground.Game.{Game}
 use Rattle.asp_defs.specs.Lists.{IsIn}
 use Rattle.asp_defs.specs.Interpretations.{holds, subsets}
-use Rattle.asp_defs.specs.PlainPrograms.{numbers_from}
+use Rattle.asp_defs.specs.Lists.{numbers_from}
 use Rattle.asp_defs.specs.Games.{level_count, base, base_size, ascends, within, is_subset, IsValid}
 use Rattle.asp_defs.specs.Entries.{Entry, cube_holds, stands_from, is_entry, cost}
 use Rattle.asp_defs.specs.History.{is_held, may_follow, is_legal, cells}

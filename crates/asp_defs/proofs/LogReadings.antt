@@ -5,7 +5,7 @@ use Rattle.std.specs.Prelude.{◌==◌, length, map, ◌&&◌, nat_le, decimal}
 use Rattle.std.specs.List.{list_all}
 use Rattle.std.specs.Fmt.{digits}
 use Rattle.asp_defs.specs.Entries.{Entry}
-use Rattle.asp_defs.specs.PlainPrograms.{is_empty}
+use Rattle.asp_defs.specs.Lists.{is_empty}
 use Rattle.asp_defs.specs.LogText.{IsLogOf, BeginsLog, IsBadLine, IsUnendedLog, entry_line, log_header, log_last, may_stand, verdict_text, cube_text}
 use Rattle.asp_defs.specs.Sets.{set_text}
 use Rattle.asp_defs.specs.TextExamples as texts

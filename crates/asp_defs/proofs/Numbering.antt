@@ -12,7 +12,7 @@ use Rattle.asp_defs.specs.declared.syntax.Element.{Element}
 use Rattle.asp_defs.specs.declared.syntax.Head.{Head}
 use Rattle.asp_defs.specs.declared.syntax.Head.TheVariants.{Disj, Choice}
 use Rattle.asp_defs.specs.declared.syntax.Rule.{Rule}
-use Rattle.asp_defs.specs.PlainPrograms.{numbers_from}
+use Rattle.asp_defs.specs.Lists.{numbers_from}
 use Rattle.asp_defs.specs.Grammar.{term_anonymous, atom_anonymous, literal_anonymous, element_anonymous, head_anonymous, rule_anonymous, IsNumbered}
 
 -- ---- a part with all numbers 0

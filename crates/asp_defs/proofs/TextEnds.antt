@@ -8,7 +8,7 @@ use Rattle.asp_defs.specs.declared.syntax.Literal.TheVariants.{Pos, Neg, Cmp}
 use Rattle.asp_defs.specs.declared.syntax.Head.TheVariants.{Disj, Choice}
 use Rattle.asp_defs.specs.declared.syntax.Rule.{Rule}
 use Rattle.asp_defs.specs.declared.syntax.Part.{Part}
-use Rattle.asp_defs.specs.PlainPrograms.{is_empty}
+use Rattle.asp_defs.specs.Lists.{is_empty}
 use Rattle.asp_defs.specs.Tokens.{Token, DirectiveToken, DotToken, ArrowToken, LeftParenToken, RightParenToken, LeftBraceToken, RightBraceToken, NumberToken, DotsToken}
 use Rattle.asp_defs.specs.Grammar.{Production, AllAt, JoinedAt, AnyJoinedAt, is_comma, is_semicolon, is_or, TermAt, WideTermAt, ArgumentsAt, AtomWithAt, LiteralAt, BodyAt, SignedBodyAt, ElementAt, HeadAt, StatementAt, quant_word, LevelAt, ConstraintPartAt}
 use Rattle.asp_defs.specs.TextRefusals.{statement_after, IsNoProgram}

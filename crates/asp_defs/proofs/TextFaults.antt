@@ -7,7 +7,7 @@ use Rattle.asp_defs.specs.Tokens.{Token, DirectiveToken, NameToken, ArrowToken, 
 use Rattle.asp_defs.specs.TextRefusals.{IsViable, IsRefused}
 use Rattle.asp_defs.specs.Examples as ex
 use Rattle.asp_defs.specs.declared.syntax.Literal.TheVariants.{Pos}
-use Rattle.asp_defs.specs.PlainPrograms.{is_empty}
+use Rattle.asp_defs.specs.Lists.{is_empty}
 use Rattle.asp_defs.proofs.TextRefutations.{clash, no_first, no_second, no_third, no_level_after}
 use Rattle.asp_defs.proofs.TextEnds.{not_ended}
 

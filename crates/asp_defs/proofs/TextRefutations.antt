@@ -13,7 +13,7 @@ use Rattle.asp_defs.specs.declared.syntax.Part.{Part}
 use Rattle.asp_defs.specs.declared.syntax.Program.{Program}
 use Rattle.asp_defs.specs.Tokens.{Token, DirectiveToken, NameToken, ArrowToken, DotToken, SemicolonToken, BarToken, LeftParenToken, LeftBraceToken}
 use Rattle.asp_defs.specs.Grammar.{Production, AllAt, JoinedAt, is_or, TermAt, WideTermAt, ArgumentsAt, AtomWithAt, AtomAt, HeadAt, SignedBodyAt, StatementAt, quant_word, LevelAt, ConstraintPartAt, IsProgram}
-use Rattle.asp_defs.specs.PlainPrograms.{is_empty}
+use Rattle.asp_defs.specs.Lists.{is_empty}
 use Rattle.asp_defs.specs.TextRefusals.{IsViable}
 
 abbrev no_more : Bool → Type 0

@@ -4,7 +4,7 @@ use Rattle.std.specs.Prelude.{Result, Ok, Err}
 use Rattle.asp_defs.specs.declared.faults.TextFault.{TextFault}
 use Rattle.asp_defs.specs.declared.faults.TextFault.TheVariants.{NoLevel}
 use Rattle.asp_defs.specs.declared.syntax.Program.{Program}
-use Rattle.asp_defs.specs.PlainPrograms.{is_empty}
+use Rattle.asp_defs.specs.Lists.{is_empty}
 use Rattle.asp_defs.specs.Tokens.{Token, Placed, without_places}
 use Rattle.asp_defs.specs.Grammar.{IsProgram}
 use Rattle.asp_defs.specs.TextRefusals.{IsViable, Offends, IsRefusedAt, refusal_of}

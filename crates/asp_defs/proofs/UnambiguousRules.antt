@@ -15,7 +15,7 @@ use Rattle.asp_defs.specs.declared.syntax.Head.TheVariants.{Disj, Choice}
 use Rattle.asp_defs.specs.declared.syntax.Rule.{Rule}
 use Rattle.asp_defs.specs.declared.syntax.Part.{Part}
 use Rattle.asp_defs.specs.declared.syntax.Program.{Program}
-use Rattle.asp_defs.specs.PlainPrograms.{is_empty}
+use Rattle.asp_defs.specs.Lists.{is_empty}
 use Rattle.asp_defs.specs.Tokens.{Token, DirectiveToken, NotToken, ArrowToken, ColonToken, DotToken, CommaToken, SemicolonToken, BarToken, RightParenToken, LeftBraceToken, RightBraceToken, EqToken, NeToken, NeAngleToken, LtToken, LeToken, GtToken, GeToken}
 use Rattle.asp_defs.specs.Grammar.{Production, AllAt, JoinedAt, AnyJoinedAt, is_comma, is_semicolon, is_or, is_operator, TermAt, WideTermAt, ArgumentsAt, AtomAt, WideAtomAt, LiteralAt, BodyAt, SignedBodyAt, ElementAt, HeadAt, ConstraintAt, StatementAt, quant_word, LevelAt, ConstraintPartAt, IsProgram}
 use Rattle.asp_defs.proofs.Numbering.{bare_term, bare_atom, bare_literal, bare_element, make_element, bare_head, bare_rule, make_rule, same_rule}

@@ -1,4 +1,4 @@
--- Answer sets of a ground program over a base (Gelfond and Lifschitz 1991, section 2). All definitions are transparent.
+-- Answer sets of a ground program over a base (Gelfond and Lifschitz 1991). All definitions are transparent.
 use Rattle.std.specs.Prelude.{ℕ, Bool, not, ◌&&◌, List}
 use Rattle.std.specs.List.{list_any, list_all, filter}
 use Rattle.asp_defs.specs.declared.ground.GroundRule.{GroundRule}

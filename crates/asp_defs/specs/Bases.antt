@@ -18,7 +18,7 @@ use Rattle.asp_defs.specs.declared.syntax.Head.TheVariants.{Disj, Choice}
 use Rattle.asp_defs.specs.declared.syntax.Rule.{Rule}
 use Rattle.asp_defs.specs.declared.syntax.Program.{Program}
 use Rattle.asp_defs.specs.Constants.{atom_cmp, distinct, rules_to, universe}
-use Rattle.asp_defs.specs.PlainPrograms.{numbers_from}
+use Rattle.asp_defs.specs.Lists.{numbers_from}
 
 -- a predicate: a name with its arity
 pub record Predicate : Type 0 where

@@ -1,4 +1,4 @@
--- Games: quantified ground programs (Amendola, Ricca and Truszczynski 2019, section 3, with the bases and the form of
+-- Games: quantified ground programs (Amendola, Ricca and Truszczynski 2019, with the bases and the form of
 -- the constraint part of this project). All definitions are transparent.
 use Rattle.std.specs.Prelude.{ℕ, ◌+◌, ◌-◌, ◌≡◌, ◌≤◌, Bool, ◌==◌, ◌&&◌, nat_lt, true, not, ◌||◌, IsTrue, List, [], ◌∷◌, ◌++◌, map, length, get_or}
 use Rattle.std.specs.List.{flat_map, list_all, enumerate_from}
@@ -12,7 +12,7 @@ use Rattle.asp_defs.specs.Interpretations.{holds}
 use Rattle.asp_defs.specs.Constants.{atom_cmp, universe, level_rules}
 use Rattle.asp_defs.specs.Bases.{bases_of}
 use Rattle.asp_defs.specs.Instances.{rule_instances}
-use Rattle.asp_defs.specs.PlainPrograms.{is_empty}
+use Rattle.asp_defs.specs.Lists.{is_empty}
 
 -- the ground rules of a level: all instances of its rules over its universe
 abbrev pub level_ground : Program → (ℕ × List Rule) → List GroundRule

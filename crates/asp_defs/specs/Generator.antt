@@ -1,7 +1,7 @@
 -- The text that `demo` makes of a number of nodes (of this project). All definitions are transparent.
 use Rattle.std.specs.Prelude.{ℕ, ◌+◌, ◌-◌, ◌*◌, ◌%◌, List, ◌++◌, codes, decimal}
 use Rattle.std.specs.List.{flat_map}
-use Rattle.asp_defs.specs.PlainPrograms.{numbers_from}
+use Rattle.asp_defs.specs.Lists.{numbers_from}
 use Rattle.asp_defs.specs.Lines.{line}
 
 -- the line of a node's edge

@@ -18,7 +18,7 @@ use Rattle.asp_defs.specs.declared.syntax.Head.TheVariants.{Disj, Choice}
 use Rattle.asp_defs.specs.declared.syntax.Rule.{Rule}
 use Rattle.asp_defs.specs.declared.syntax.Part.{Part}
 use Rattle.asp_defs.specs.declared.syntax.Program.{Program}
-use Rattle.asp_defs.specs.PlainPrograms.{is_empty, numbers_from}
+use Rattle.asp_defs.specs.Lists.{is_empty, numbers_from}
 use Rattle.asp_defs.specs.Tokens.{Token, Placed, tokens_of, without_places, DirectiveToken, NotToken, NameToken, VariableToken, AnonymousToken, NumberToken, ArrowToken, ColonToken, DotToken, DotsToken, CommaToken, SemicolonToken, BarToken, LeftParenToken, RightParenToken, LeftBraceToken, RightBraceToken, EqToken, NeToken, NeAngleToken, LtToken, LeToken, GtToken, GeToken}
 
 -- a production: the tokens begin with a form of the part, and the rest follows it

@@ -3,13 +3,13 @@ pub mod Interpretations
 pub mod Truth
 pub mod Reduct
 pub mod AnswerSets
-pub mod PlainTokens
-pub mod PlainPrograms
-pub mod PlainText
 pub mod Tokens
 pub mod Grammar
 pub mod TextRefusals
 pub mod Constants
+pub mod PlainTokens
+pub mod PlainPrograms
+pub mod PlainText
 pub mod Bases
 pub mod Instances
 pub mod Games

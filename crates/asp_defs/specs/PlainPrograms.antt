@@ -1,9 +1,8 @@
 -- Plain programs: one existential level of rules with at most one head atom, over atoms without arguments, and no
 -- constraint part. Their base, and their rules over the base's numbers. All definitions are transparent.
-use Rattle.std.specs.Prelude.{ℕ, zero, suc, Bool, true, false, ◌&&◌, nat_le, List, [], ◌∷◌, ◌++◌, map, length}
-use Rattle.std.specs.List.{list_all, position_or_len}
+use Rattle.std.specs.Prelude.{ℕ, Bool, true, false, ◌&&◌, nat_le, List, [], ◌∷◌, ◌++◌, map, length}
+use Rattle.std.specs.List.{flat_map, list_all, position_or_len}
 use Rattle.std.specs.Ordering.{nat_cmp}
-use Rattle.std.specs.declared.cmp.Ordering.TheVariants.{Less, Equal, Greater}
 use Rattle.std.specs.Cmp.Lexicographic.{slice_cmp}
 use Rattle.std.specs.Str.{bytes_eq}
 use Rattle.asp_defs.specs.declared.syntax.Quant.TheVariants.{Exists}
@@ -15,15 +14,13 @@ use Rattle.asp_defs.specs.declared.syntax.Head.TheVariants.{Disj, Choice}
 use Rattle.asp_defs.specs.declared.syntax.Rule.{Rule}
 use Rattle.asp_defs.specs.declared.syntax.Program.{Program}
 use Rattle.asp_defs.specs.declared.ground.GroundRule.{GroundRule}
+use Rattle.asp_defs.specs.Lists.{is_empty, numbers_from}
+use Rattle.asp_defs.specs.Constants.{with_member, distinct}
 use Rattle.asp_defs.specs.AnswerSets.{has_answer_set}
 
 -- the most distinct names that a plain program has
 abbrev pub most_names : ℕ
 most_names = 16
-
-abbrev pub is_empty : {A : Type 0} → List A → Bool
-is_empty [] = true
-is_empty (x ∷ xs) = false
 
 -- an atom without arguments
 abbrev pub is_plain_atom : Atom → Bool
@@ -66,40 +63,25 @@ neg_name (Cmp x op y) = []
 abbrev pub literal_names : Literal → List (List ℕ)
 literal_names l = pos_name l ++ neg_name l
 
-abbrev pub flatten : {A B : Type 0} → (A → List B) → List A → List B
-flatten f [] = []
-flatten f (x ∷ xs) = f x ++ flatten f xs
-
 -- the names of a rule and of rules, as often as they stand there
 abbrev pub rule_names : Rule → List (List ℕ)
-rule_names r = head_names r.head ++ flatten literal_names r.body
+rule_names r = head_names r.head ++ flat_map literal_names r.body
 
 -- a name put into an ascending list of names, unless it stands there
 abbrev pub with_name : List ℕ → List (List ℕ) → List (List ℕ)
-with_name n [] = n ∷ []
-with_name n (m ∷ ms) = elim (slice_cmp nat_cmp n m) [
-  | Less ↦ n ∷ m ∷ ms
-  | Equal ↦ m ∷ ms
-  | Greater ↦ m ∷ with_name n ms
-]
+with_name n names = with_member (slice_cmp nat_cmp) n names
 
 -- the names of a list, ascending by their bytes and each once
 abbrev pub distinct_names : List (List ℕ) → List (List ℕ)
-distinct_names [] = []
-distinct_names (n ∷ ns) = with_name n (distinct_names ns)
+distinct_names names = distinct (slice_cmp nat_cmp) names
 
 -- the names of rules in the order of their bytes, each once: the base, whose atoms are numbered from 0
 abbrev pub names_of : List Rule → List (List ℕ)
-names_of rules = distinct_names (flatten rule_names rules)
+names_of rules = distinct_names (flat_map rule_names rules)
 
 -- whether rules are those of a plain program
 abbrev pub are_plain : List Rule → Bool
 are_plain rules = list_all is_plain_rule rules && nat_le (length (names_of rules)) most_names
-
--- the first numbers from 0, as many as asked for
-abbrev pub numbers_from : ℕ → ℕ → List ℕ
-numbers_from first zero = []
-numbers_from first (suc count) = first ∷ numbers_from (suc first) count
 
 -- a name's number
 abbrev pub number_of : List (List ℕ) → List ℕ → ℕ
@@ -110,8 +92,8 @@ abbrev pub numbered : List (List ℕ) → Rule → GroundRule
 numbered names r = record {
   choice = false;
   head = map (number_of names) (head_names r.head);
-  pos = map (number_of names) (flatten pos_name r.body);
-  neg = map (number_of names) (flatten neg_name r.body);
+  pos = map (number_of names) (flat_map pos_name r.body);
+  neg = map (number_of names) (flat_map neg_name r.body);
 }
 
 -- the ground program of plain rules

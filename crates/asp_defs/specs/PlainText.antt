@@ -7,7 +7,8 @@ use Rattle.asp_defs.specs.declared.syntax.Head.TheVariants.{Disj, Choice}
 use Rattle.asp_defs.specs.declared.syntax.Rule.{Rule}
 use Rattle.asp_defs.specs.declared.syntax.Program.{Program}
 use Rattle.asp_defs.specs.PlainTokens.{PlainToken, ExistsToken, NameToken, NotToken, ArrowToken, CommaToken, StopToken, IsCut}
-use Rattle.asp_defs.specs.PlainPrograms.{is_empty, one_level, are_plain}
+use Rattle.asp_defs.specs.Lists.{is_empty}
+use Rattle.asp_defs.specs.PlainPrograms.{one_level, are_plain}
 
 -- the most bytes that a text has
 abbrev pub most_bytes : ℕ

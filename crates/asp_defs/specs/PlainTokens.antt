@@ -1,8 +1,9 @@
 -- The tokens of plain texts, and how bytes are cut into them: blanks may stand anywhere between tokens, and at each
 -- place the longest token is taken (of this project). All definitions are transparent.
-use Rattle.std.specs.Prelude.{ℕ, ◌≡◌, Bool, true, false, not, ◌==◌, ◌&&◌, ◌||◌, nat_le, IsTrue, List, [], ◌∷◌, ◌++◌, codes}
+use Rattle.std.specs.Prelude.{ℕ, ◌≡◌, Bool, true, false, not, ◌==◌, ◌&&◌, IsTrue, List, [], ◌∷◌, ◌++◌, codes}
 use Rattle.std.specs.List.{list_all}
 use Rattle.std.specs.Str.{bytes_eq}
+use Rattle.asp_defs.specs.Tokens.{is_blank, is_lower, is_name_byte}
 
 -- a token; a name carries its bytes
 pub data PlainToken : Type 0 where
@@ -12,18 +13,6 @@ pub data PlainToken : Type 0 where
   ArrowToken : PlainToken
   CommaToken : PlainToken
   StopToken : PlainToken
-
--- space, tab, line feed and carriage return
-abbrev pub is_blank : ℕ → Bool
-is_blank b = (b == 32) || ((b == 9) || ((b == 10) || (b == 13)))
-
-abbrev pub is_lower : ℕ → Bool
-is_lower b = nat_le 97 b && nat_le b 122
-
--- a letter of either case, a digit or an underscore
-abbrev pub is_name_byte : ℕ → Bool
-is_name_byte b =
-    is_lower b || ((nat_le 65 b && nat_le b 90) || ((nat_le 48 b && nat_le b 57) || (b == 95)))
 
 -- whether bytes have the form of a name: a small letter, and then letters, digits and underscores; `not` is no name
 abbrev pub is_name : List ℕ → Bool

@@ -1,4 +1,4 @@
--- The reduct of a ground program under an interpretation (Gelfond and Lifschitz 1991, section 2; the form of choice
+-- The reduct of a ground program under an interpretation (Gelfond and Lifschitz 1991; the form of choice
 -- rules is this project's own). All definitions are transparent.
 use Rattle.std.specs.Prelude.{ℕ, Bool, false, not, ◌&&◌, ◌||◌, List, [], map}
 use Rattle.std.specs.List.{list_any, list_all, filter}

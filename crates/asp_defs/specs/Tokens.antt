@@ -6,8 +6,7 @@ use Rattle.std.specs.List.{list_all, find}
 use Rattle.std.specs.Str.Parse.{digits_value}
 use Rattle.asp_defs.specs.declared.faults.TextFault.{TextFault}
 use Rattle.asp_defs.specs.declared.faults.TextFault.TheVariants.{BadByte, BadNumber, OpenComment}
-use Rattle.asp_defs.specs.PlainTokens.{is_blank, is_lower, is_name_byte}
-use Rattle.asp_defs.specs.PlainPrograms.{is_empty}
+use Rattle.asp_defs.specs.Lists.{is_empty}
 
 -- a token: a directive with the letters behind its `%@`, a name and a variable with their bytes, a number with its value
 pub data Token : Type 0 where
@@ -43,6 +42,18 @@ pub data Shape : Type 0 where
   CommentShape : Shape
   OpenShape : Shape
   TokenShape : Token → Shape
+
+-- space, tab, line feed and carriage return
+abbrev pub is_blank : ℕ → Bool
+is_blank b = (b == 32) || ((b == 9) || ((b == 10) || (b == 13)))
+
+abbrev pub is_lower : ℕ → Bool
+is_lower b = nat_le 97 b && nat_le b 122
+
+-- a letter of either case, a digit or an underscore
+abbrev pub is_name_byte : ℕ → Bool
+is_name_byte b =
+    is_lower b || ((nat_le 65 b && nat_le b 90) || ((nat_le 48 b && nat_le b 57) || (b == 95)))
 
 abbrev pub is_upper : ℕ → Bool
 is_upper b = nat_le 65 b && nat_le b 90

@@ -1,5 +1,5 @@
 -- Truth of bodies and satisfaction of rules in an interpretation: the usual definitions for ground disjunctive rules
--- (Gelfond and Lifschitz 1991, section 2), with choice rules beside them. All are transparent.
+-- (Gelfond and Lifschitz 1991), with choice rules beside them. All are transparent.
 use Rattle.std.specs.Prelude.{ℕ, Bool, not, ◌&&◌, ◌||◌, List}
 use Rattle.std.specs.List.{list_any, list_all}
 use Rattle.asp_defs.specs.declared.ground.GroundRule.{GroundRule}

@@ -9,7 +9,7 @@ use Rattle.asp_defs.specs.declared.ground.Game.{Game}
 use Rattle.asp_defs.specs.Games.{level_count, base_size}
 use Rattle.asp_defs.specs.Entries.{Entry}
 use Rattle.asp_defs.specs.History.{agrees, is_held_with, cells}
-use Rattle.asp_defs.specs.PlainPrograms.{numbers_from}
+use Rattle.asp_defs.specs.Lists.{numbers_from}
 
 -- the placements with which a search of a level always ends
 abbrev pub enough_placements : Game → ℕ → ℕ

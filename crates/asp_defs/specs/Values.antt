@@ -1,5 +1,5 @@
 -- Moves of a level, and the value of a move: the recursion over the levels by which coherence is defined (Amendola,
--- Ricca and Truszczynski 2019, section 3). All definitions are transparent.
+-- Ricca and Truszczynski 2019). All definitions are transparent.
 use Rattle.std.specs.Prelude.{ℕ, ◌+◌, ◌-◌, Bool, false, not, List, [], ◌∷◌, ◌++◌, map, drop}
 use Rattle.std.specs.List.{list_any, list_all, filter}
 use Rattle.asp_defs.specs.declared.ground.GroundRule.{GroundRule}
@@ -9,7 +9,7 @@ use Rattle.asp_defs.specs.declared.syntax.Quant.TheVariants.{Exists, Forall}
 use Rattle.asp_defs.specs.Interpretations.{holds}
 use Rattle.asp_defs.specs.AnswerSets.{answer_sets}
 use Rattle.asp_defs.specs.Games.{base, rules_of}
-use Rattle.asp_defs.specs.PlainPrograms.{is_empty}
+use Rattle.asp_defs.specs.Lists.{is_empty}
 
 -- the fact and the denial of an atom
 abbrev pub fact : ℕ → GroundRule

@@ -4,7 +4,7 @@ use Rattle.std.specs.Prelude.{ℕ, suc, ◌+◌, ◌*◌, Bool, true, false, ◌
 use Rattle.std.specs.Option.{option_map_or}
 use Rattle.std.specs.List.{list_all, list_any, find, fold, slice_split, starts_with}
 use Rattle.std.specs.Str.Parse.{digits_value}
-use Rattle.asp_defs.specs.PlainPrograms.{is_empty}
+use Rattle.asp_defs.specs.Lists.{is_empty}
 use Rattle.asp_defs.specs.Tokens.{is_digit}
 
 -- an option of a command

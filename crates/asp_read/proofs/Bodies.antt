@@ -8,7 +8,8 @@ use Rattle.asp_defs.specs.declared.syntax.Atom.{Atom}
 use Rattle.asp_defs.specs.declared.syntax.Literal.{Literal}
 use Rattle.asp_defs.specs.declared.syntax.Literal.TheVariants.{Pos, Neg, Cmp}
 use Rattle.asp_defs.specs.PlainTokens.{PlainToken, NameToken, NotToken, CommaToken}
-use Rattle.asp_defs.specs.PlainPrograms.{is_plain_literal, is_plain_atom, is_empty}
+use Rattle.asp_defs.specs.Lists.{is_empty}
+use Rattle.asp_defs.specs.PlainPrograms.{is_plain_literal, is_plain_atom}
 use Rattle.asp_defs.specs.PlainText.{literal_tokens, body_tokens}
 use Rattle.asp_read.specs.Reads.{Continues}
 use Rattle.asp_read.proofs.Fronts.{Continues-more}

@@ -5,23 +5,8 @@ use Rattle.std.specs.List.{list_all}
 use Rattle.std.proofs.lemmas.Bool.{and_parts, and_from, not-true, not_from_true, not_from_false, both_ways, cond-true}
 use Rattle.std.proofs.lemmas.Bool.Decides.{nat_tests}
 use Rattle.std.proofs.lemmas.Slice.Eq.{bytes_eq-Decides}
-use Rattle.asp_defs.specs.PlainTokens.{
-  PlainToken,
-  ExistsToken,
-  NameToken,
-  NotToken,
-  ArrowToken,
-  CommaToken,
-  StopToken,
-  is_blank,
-  is_lower,
-  is_name_byte,
-  is_name,
-  spelling,
-  is_formed,
-  ends_before,
-  IsCut,
-}
+use Rattle.asp_defs.specs.Tokens.{is_blank, is_lower, is_name_byte}
+use Rattle.asp_defs.specs.PlainTokens.{PlainToken, ExistsToken, NameToken, NotToken, ArrowToken, CommaToken, StopToken, is_name, spelling, is_formed, ends_before, IsCut}
 use Rattle.asp_read.specs.Reads.{Continues}
 use Rattle.asp_read.specs.Tokens.{IsFirst}
 

@@ -9,7 +9,8 @@ use Rattle.std.proofs.Common.{◌-◌, drop-cons}
 use Rattle.std.proofs.Math.ListN.{drop_of_length-le}
 use Rattle.std.proofs.lemmas.List.{take-append-drop, append-nil}
 use Rattle.std.proofs.lemmas.Bool.{cases_lt, cond-true, cond-false, lt-ltb, le-ltb}
-use Rattle.asp_defs.specs.PlainPrograms.{with_name, distinct_names, most_names, flatten}
+use Rattle.std.specs.List.{flat_map}
+use Rattle.asp_defs.specs.PlainPrograms.{with_name, distinct_names, most_names}
 use Rattle.asp_read.specs.Names.{name_added, names_added}
 
 -- ---- one name
@@ -99,14 +100,14 @@ module _ (n : List ℕ) (xs : List (List ℕ)) (at : ℕ) (behind : with_name n 
 
 -- one more item, from the end
 pub one_more : {X : Type 0} (f : X → List (List ℕ)) (xs : List X) (at : ℕ) (x : X) (old new ns : List (List ℕ))
-    → 0 < at → at ≤ length xs → x ≡ get_or xs (at - 1) x → old ≡ names_added (flatten f (drop at xs)) ns
-    → new ≡ names_added (f x) old → new ≡ names_added (flatten f (drop (at - 1) xs)) ns
+    → 0 < at → at ≤ length xs → x ≡ get_or xs (at - 1) x → old ≡ names_added (flat_map f (drop at xs)) ns
+    → new ≡ names_added (f x) old → new ≡ names_added (flat_map f (drop (at - 1) xs)) ns
 one_more f xs at x old new ns some within is e d =
     let split : drop (at - 1) xs ≡ get_or xs (at - 1) x ∷ drop (suc (at - 1)) xs = drop-cons xs (at - 1) x (omega arith) in
     let back : suc (at - 1) ≡ at = omega arith in
     let here : drop (at - 1) xs ≡ x ∷ drop at xs = cc in
-    d ∙ (ap (names_added (f x)) e ∙ (sym (names_added-append (f x) (flatten f (drop at xs)) ns)
-    ∙ ap (λ l. names_added (flatten f l) ns) (sym here)))
+    d ∙ (ap (names_added (f x)) e ∙ (sym (names_added-append (f x) (flat_map f (drop at xs)) ns)
+    ∙ ap (λ l. names_added (flat_map f l) ns) (sym here)))
 
 pub both_parts : (ms ks old middle : List (List ℕ)) → middle ≡ names_added ks old → names_added ms middle ≡ names_added (ms ++ ks) old
 both_parts ms ks old middle e = ap (names_added ms) e ∙ sym (names_added-append ms ks old)

@@ -3,7 +3,8 @@ use Rattle.std.proofs.Common.{ℕ, ◌≡◌, true, false, List, [], ◌∷◌, 
 use Rattle.std.specs.Prelude.{IsTrue}
 use Rattle.std.specs.List.{list_all}
 use Rattle.std.proofs.lemmas.Bool.{not-true, both_ways}
-use Rattle.asp_defs.specs.PlainTokens.{NotToken, is_name_byte, ends_before}
+use Rattle.asp_defs.specs.Tokens.{is_name_byte}
+use Rattle.asp_defs.specs.PlainTokens.{NotToken, ends_before}
 use Rattle.asp_read.specs.Tokens.{begins_lower, IsWord}
 use Rattle.asp_read.proofs.Cuts.{lower_named}
 

@@ -1,7 +1,8 @@
 -- The loop over a text: the tokens so far, and the bytes that are still to be cut.
 use Rattle.std.proofs.Common.{ℕ, ◌≡◌, List, [], ◌∷◌, ◌++◌, true, false, refl, sym, ◌∙◌, ap, subst, length}
 use Rattle.std.proofs.lemmas.List.{nil_from_length, map-append}
-use Rattle.asp_defs.specs.PlainTokens.{PlainToken, is_blank, IsCut}
+use Rattle.asp_defs.specs.Tokens.{is_blank}
+use Rattle.asp_defs.specs.PlainTokens.{PlainToken, IsCut}
 use Rattle.asp_read.specs.declared.scan.Token.{Token}
 use Rattle.asp_read.specs.Reads.{Continues}
 use Rattle.asp_read.specs.Tokens.{token_of, tokens_of, IsFirst}

@@ -4,7 +4,8 @@ use Rattle.std.specs.List.{list_all}
 use Rattle.std.specs.Str.{bytes_eq}
 use Rattle.asp_read.specs.declared.scan.Token.{Token}
 use Rattle.asp_read.specs.declared.scan.Token.TheVariants as variants
-use Rattle.asp_defs.specs.PlainTokens.{PlainToken, ExistsToken, NameToken, NotToken, ArrowToken, CommaToken, StopToken, is_lower, is_name_byte, is_formed, spelling, ends_before}
+use Rattle.asp_defs.specs.Tokens.{is_lower, is_name_byte}
+use Rattle.asp_defs.specs.PlainTokens.{PlainToken, ExistsToken, NameToken, NotToken, ArrowToken, CommaToken, StopToken, is_formed, spelling, ends_before}
 
 -- a token without where its name lies in memory
 abbrev pub token_of : Token → PlainToken

@@ -1,14 +1,7 @@
 //! The names of rules, which are the base of their program.
 ghost use Rattle.std.specs.Prelude.{◌≡◌, ◌<◌, ◌≤◌, ◌∷◌, [], length, map, IfOk, OnOk};
-ghost use Rattle.asp_defs.specs.PlainPrograms.{
-  with_name,
-  names_of,
-  most_names,
-  literal_names,
-  head_names,
-  rule_names,
-  flatten,
-};
+ghost use Rattle.std.specs.List.{flat_map};
+ghost use Rattle.asp_defs.specs.PlainPrograms.{with_name, names_of, most_names, literal_names, head_names, rule_names};
 ghost use Rattle.asp_read.specs.Names.{name_added, names_added};
 
 use asp_defs::{Atom, Head, List, Literal, Name, NoMemory, Rule};
@@ -62,7 +55,7 @@ fn add_literal(alloc: Global, names: &mut Vec<Name>, literal: &Literal) -> Resul
 
 /// Adds the names of a body, from the last to the first.
 fn add_body(alloc: Global, names: &mut Vec<Name>, body: &[Literal]) -> Result<(), NoMemory>
-    ensures { OnOk result (names.new.items ≡ names_added (flatten literal_names body.now) names.old.items) }
+    ensures { OnOk result (names.new.items ≡ names_added (flat_map literal_names body.now) names.old.items) }
 {
     for at in (0..body.len()).rev() {
         add_literal(alloc, names, &body[at])?;
@@ -100,7 +93,7 @@ fn add_rule(alloc: Global, names: &mut Vec<Name>, rule: &Rule) -> Result<(), NoM
 
 /// Adds the names of rules, from the last to the first.
 fn add_rules(alloc: Global, names: &mut Vec<Name>, rules: &[Rule]) -> Result<(), NoMemory>
-    ensures { OnOk result (names.new.items ≡ names_added (flatten rule_names rules.now) names.old.items) }
+    ensures { OnOk result (names.new.items ≡ names_added (flat_map rule_names rules.now) names.old.items) }
 {
     for at in (0..rules.len()).rev() {
         add_rule(alloc, names, &rules[at])?;

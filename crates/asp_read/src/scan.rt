@@ -15,17 +15,8 @@ ghost use Rattle.std.specs.Prelude.{
   IsTrue,
 };
 ghost use Rattle.std.specs.List.{list_all};
-ghost use Rattle.asp_defs.specs.PlainTokens.{
-  PlainToken,
-  ExistsToken,
-  NameToken,
-  NotToken,
-  StopToken,
-  is_blank,
-  is_lower,
-  is_name_byte,
-  ends_before,
-};
+ghost use Rattle.asp_defs.specs.Tokens.{is_blank, is_lower, is_name_byte};
+ghost use Rattle.asp_defs.specs.PlainTokens.{PlainToken, ExistsToken, NameToken, NotToken, StopToken, ends_before};
 ghost use Rattle.asp_read.specs.Tokens.{token_of, IsFirst, IsWord, begins_lower, word_token};
 
 /// A token of a plain text. A name borrows its bytes.

@@ -13,7 +13,8 @@ use Rattle.asp_defs.specs.Interpretations.{holds, subsets, same}
 use Rattle.asp_defs.specs.Truth.{is_model}
 use Rattle.asp_defs.specs.Reduct.{reduct}
 use Rattle.asp_defs.specs.AnswerSets.{is_answer_set, has_answer_set}
-use Rattle.asp_defs.specs.PlainPrograms.{numbered, numbers_from}
+use Rattle.asp_defs.specs.Lists.{numbers_from}
+use Rattle.asp_defs.specs.PlainPrograms.{numbered}
 use Rattle.asp_top.specs.declared.masks.MaskedRule.{MaskedRule}
 use Rattle.asp_top.specs.Masks.{masked, satisfies_part, models_reduct, HaveSameMembers, IsMinimalModel, IsNoMinimalModel}
 use Rattle.asp_top.proofs.Atoms.{bit_at-same}

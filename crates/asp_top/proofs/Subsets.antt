@@ -7,7 +7,7 @@ use Rattle.std.proofs.lemmas.List.Folds.{list_any-append}
 use Rattle.std.proofs.lemmas.Nat.Bits.{bit_at_lowest, bit_at-suc, bit_at-zero, bit_at-lt, bit_at_ones, bit_at_above}
 use Rattle.std.proofs.lemmas.Bool.{eqb-true, eq-eqb, ne_eqb, cases_Bool, cases_lt, and_from, and_left, and_right, or_from, or_left, or_right}
 use Rattle.asp_defs.specs.Interpretations.{holds, subsets}
-use Rattle.asp_defs.specs.PlainPrograms.{numbers_from}
+use Rattle.asp_defs.specs.Lists.{numbers_from}
 use Rattle.asp_top.proofs.Atoms.{bit, or_false}
 
 abbrev with_first : Bool → ℕ → List ℕ → List ℕ

@@ -1,7 +1,8 @@
 // Rules over sets of names, where a set of at most 16 names is a mask: bit a is set where name a is a member.
 ghost use Rattle.std.specs.Prelude.{◌≡◌, ◌≤◌, ◌^◌, List, length, map, position, IfOk};
 ghost use Rattle.std.specs.Str.{bytes_eq};
-ghost use Rattle.asp_defs.specs.PlainPrograms.{number_of, numbered, head_names, pos_name, neg_name, flatten};
+ghost use Rattle.std.specs.List.{flat_map};
+ghost use Rattle.asp_defs.specs.PlainPrograms.{number_of, numbered, head_names, pos_name, neg_name};
 ghost use Rattle.asp_top.specs.Masks.{mask_of, masked as masked_of, HaveSameMembers};
 
 use asp_defs::{Head, Literal, Name, Rule};
@@ -62,7 +63,7 @@ fn head_mask(names: &[Name], head: &Head) -> u32
 /// The atoms of the positive body.
 fn positive_mask(names: &[Name], body: &[Literal]) -> u32
     requires { length names.now ≤ 16 }
-    ensures { result ≡ mask_of (map (number_of names.now) (flatten pos_name body.now)) }
+    ensures { result ≡ mask_of (map (number_of names.now) (flat_map pos_name body.now)) }
 {
     let mut mask = 0;
     for literal in body {
@@ -76,7 +77,7 @@ fn positive_mask(names: &[Name], body: &[Literal]) -> u32
 /// The atoms of the negative body.
 fn negative_mask(names: &[Name], body: &[Literal]) -> u32
     requires { length names.now ≤ 16 }
-    ensures { result ≡ mask_of (map (number_of names.now) (flatten neg_name body.now)) }
+    ensures { result ≡ mask_of (map (number_of names.now) (flat_map neg_name body.now)) }
 {
     let mut mask = 0;
     for literal in body {

@@ -1,7 +1,8 @@
 use Rattle.std.proofs.Common.{sym, ◌∙◌, subst}
 use Rattle.std.specs.Prelude.{IsTrue}
 use Rattle.std.specs.List.{list_all}
-use Rattle.asp_defs.specs.PlainTokens.{is_name_byte, NotToken, ends_before}
+use Rattle.asp_defs.specs.Tokens.{is_name_byte}
+use Rattle.asp_defs.specs.PlainTokens.{NotToken, ends_before}
 use Rattle.asp_read.proofs.Scans.{word_parts}
 use Rattle.asp_read.proofs.scan.word.Goals as goal
 

@@ -1,7 +1,7 @@
 use Rattle.std.proofs.Common.{take}
 use Rattle.std.specs.Prelude.{IsTrue}
 use Rattle.std.specs.List.{list_all}
-use Rattle.asp_defs.specs.PlainTokens.{is_name_byte}
+use Rattle.asp_defs.specs.Tokens.{is_name_byte}
 use Rattle.asp_read.proofs.scan.word_len.Given as goal
 
 abbrev pub invariant-loop-at : goal.invariant-loop-at

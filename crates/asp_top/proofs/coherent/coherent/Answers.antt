@@ -1,6 +1,7 @@
 use Rattle.std.proofs.Common.{◌≡◌, List, ℕ, length, map, sym, subst}
 use Rattle.asp_defs.specs.AnswerSets.{has_answer_set}
-use Rattle.asp_defs.specs.PlainPrograms.{numbered, numbers_from}
+use Rattle.asp_defs.specs.Lists.{numbers_from}
+use Rattle.asp_defs.specs.PlainPrograms.{numbered}
 use Rattle.asp_top.specs.Masks.{masked, HaveSameMembers}
 use Rattle.asp_top.proofs.Minimal.{verdict}
 use Rattle.asp_top.proofs.coherent.coherent.Goals as goal

@@ -1,9 +1,10 @@
 use Rattle.std.proofs.Common.{◌≡◌, map, take}
-use Rattle.asp_defs.specs.PlainPrograms.{number_of, pos_name, flatten}
+use Rattle.std.specs.List.{flat_map}
+use Rattle.asp_defs.specs.PlainPrograms.{number_of, pos_name}
 use Rattle.asp_top.specs.Masks.{mask_of}
 use Rattle.asp_top.proofs.masks.positive_mask.Given as goal
 
 -- the mask has the atoms so far
 abbrev pub invariant-loop-literal : goal.invariant-loop-literal
 invariant-loop-literal l =
-    l.mask ≡ mask_of (map (number_of l.names) (flatten pos_name (take l.literal-index l.body)))
+    l.mask ≡ mask_of (map (number_of l.names) (flat_map pos_name (take l.literal-index l.body)))
