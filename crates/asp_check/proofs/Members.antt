@@ -1,0 +1,62 @@
+-- Variables of lists: tests and members.
+use Rattle.std.proofs.Common.{◌≡◌, refl, sym, ap, subst, inl, inr, Bool, true, false, List, [], ◌∷◌}
+use Rattle.std.specs.List.{flat_map}
+use Rattle.std.specs.Cmp.Lexicographic.{bytes_decides}
+use Rattle.std.proofs.lemmas.Bool.{eqb-true, eq-eqb}
+use Rattle.asp_defs.specs.declared.syntax.Term.{Term}
+use Rattle.asp_defs.specs.declared.syntax.Term.TheVariants.{Var, Anon}
+use Rattle.asp_defs.specs.Lists.{IsIn}
+use Rattle.asp_defs.specs.Instances.{same_variable}
+use Rattle.asp_defs.specs.Safety.{is_variable_of}
+use Rattle.asp_defs.proofs.Lists.{any_at, any_from, append_at, append_left, append_right}
+use Rattle.asp_defs.proofs.TextRefutations.{clash}
+use Rattle.asp_check.specs.declared.variables.Variable.{Variable}
+use Rattle.asp_check.specs.declared.variables.Variable.TheVariants as variants
+use Rattle.asp_check.specs.Variables.{term_of}
+use Rattle.asp_check.specs.Closure.{Within}
+
+-- variables that are the same are equal, and a variable is the same as itself
+pub equal : (v w : Term) → same_variable v w ≡ true → v ≡ w
+equal (Var n) (Var m) h = ap Var ((bytes_decides n m).0 h)
+equal (Anon j) (Anon k) h = ap Anon (eqb-true j k h)
+equal v w h = clash h
+
+pub itself : (v : Variable) → same_variable (term_of v) (term_of v) ≡ true
+itself (variants.Named n) = (bytes_decides n.now n.now).1 refl
+itself (variants.Anon k) = eq-eqb k k refl
+
+-- a member by the test, and a test by membership
+pub member_at : (vs : List Term) (v : Term) → is_variable_of vs v ≡ true → IsIn v vs
+member_at vs v h =
+    let found = any_at (same_variable v) vs h in subst (λ w. IsIn w vs) (sym (equal v found.0 found.2)) found.1
+
+pub member_from : (vs : List Term) (v : Term) → same_variable v v ≡ true → IsIn v vs → is_variable_of vs v ≡ true
+member_from vs v same i = any_from (same_variable v) vs v i same
+
+-- the test is true of no variable but members
+pub test_more : (us vs : List Term) → Within us vs → (v : Term) → is_variable_of us v ≡ true → is_variable_of vs v ≡ true
+test_more us vs more v h =
+    let found = any_at (same_variable v) us h in any_from (same_variable v) vs found.0 (more found.0 found.1) found.2
+
+-- tests of lists with the same members are the same
+pub same_truth : (a b : Bool) → (a ≡ true → b ≡ true) → (b ≡ true → a ≡ true) → a ≡ b
+same_truth true b f g = sym (f refl)
+same_truth false true f g = g refl
+same_truth false false f g = refl
+
+pub same_test : (us vs : List Term) → Within us vs → Within vs us → (v : Term) → is_variable_of us v ≡ is_variable_of vs v
+same_test us vs more less v =
+    same_truth (is_variable_of us v) (is_variable_of vs v) (test_more us vs more v) (test_more vs us less v)
+
+-- members of joined lists
+pub flat_at : {A B : Type 0} (f : A → List B) (xs : List A) (v : B) → IsIn v (flat_map f xs) → (x : A) × IsIn x xs × IsIn v (f x)
+flat_at f [] v i = absurd i
+flat_at f (x ∷ xs) v i = elim (append_at (f x) (flat_map f xs) v i) [
+  | inl h ↦ (x, inl refl, h)
+  | inr h ↦ let found = flat_at f xs v h in (found.0, inr found.1, found.2)
+]
+
+pub flat_from : {A B : Type 0} (f : A → List B) (xs : List A) (x : A) (v : B) → IsIn x xs → IsIn v (f x) → IsIn v (flat_map f xs)
+flat_from f [] x v i h = absurd i
+flat_from f (y ∷ ys) x v (inl e) h = append_left (f y) (flat_map f ys) v (subst (λ z. IsIn v (f z)) e h)
+flat_from f (y ∷ ys) x v (inr i) h = append_right (f y) (flat_map f ys) v (flat_from f ys x v i h)

@@ -1,0 +1,9 @@
+pub mod Variables
+pub mod Bindings
+pub mod Closure
+pub mod Safe
+pub mod Counts
+pub mod Refusals
+pub mod Condition
+pub mod Laws
+pub mod Index

@@ -1,0 +1,177 @@
+//! What the limits count.
+ghost use Rattle.std.specs.Prelude.{◌≡◌, ℕ, ◌+◌, ◌≤◌, map, max, length, IfOk};
+ghost use Rattle.std.specs.List.{flat_map, sum_by};
+ghost use Rattle.asp_defs.specs.Instances.{pos_atoms, neg_atoms};
+ghost use Rattle.asp_defs.specs.Limits.{
+  literal_atoms,
+  element_atoms,
+  head_atoms,
+  rule_atoms,
+  head_literals,
+  rule_literals,
+  variable_count,
+  greatest,
+  past_limit,
+  limit,
+};
+ghost use Rattle.asp_check.specs.Counts.{arguments_with, capped};
+
+use crate::safety::count_distinct;
+use crate::variables::variables;
+use asp_defs::{Atom, Element, Head, Literal, NoMemory, Rule, Which};
+use std::alloc::Global;
+
+/// The greater of a count and that of an atom's arguments.
+fn atom_arguments(most: u64, atom: &Atom) -> u64
+    ensures { result ≡ max most (length atom.now.args) }
+{
+    most.max(atom.args.len() as u64)
+}
+
+/// The greatest of a count and those of the arguments of atoms.
+fn atoms_arguments(most: u64, atoms: &[Atom]) -> u64
+    ensures { result ≡ arguments_with most atoms.now }
+{
+    let mut most = most;
+    for atom in atoms {
+        most = atom_arguments(most, atom);
+    }
+    most
+}
+
+/// The greatest of a count and those of the arguments in literals.
+fn literals_arguments(most: u64, literals: &[Literal]) -> u64
+    ensures { result ≡ arguments_with most (flat_map literal_atoms literals.now) }
+{
+    let mut most = most;
+    for literal in literals {
+        most = match literal {
+            Literal::Pos(atom) => atom_arguments(most, atom),
+            Literal::Neg(atom) => atom_arguments(most, atom),
+            Literal::Cmp(..) => most,
+        };
+    }
+    most
+}
+
+/// The greatest of a count and those of the arguments in elements.
+fn elements_arguments(most: u64, elements: &[Element]) -> u64
+    ensures { result ≡ arguments_with most (flat_map element_atoms elements.now) }
+{
+    let mut most = most;
+    for element in elements {
+        most = literals_arguments(atom_arguments(most, &element.atom), element.cond.as_slice());
+    }
+    most
+}
+
+/// The greatest of a count and those of the arguments in a rule.
+fn rule_arguments(most: u64, rule: &Rule) -> u64
+    ensures { result ≡ arguments_with most (rule_atoms rule.now) }
+{
+    let most = match &rule.head {
+        Head::Disj(atoms) => atoms_arguments(most, atoms.as_slice()),
+        Head::Choice(elements) => elements_arguments(most, elements.as_slice()),
+    };
+    literals_arguments(most, rule.body.as_slice())
+}
+
+/// The greatest count of an atom's arguments in rules.
+pub fn most_arguments(rules: &[&Rule]) -> u64
+    ensures { result ≡ arguments_with 0 (flat_map rule_atoms (map (λ r. r.now) rules.now)) }
+{
+    let mut most = 0;
+    for rule in rules {
+        most = rule_arguments(most, rule);
+    }
+    most
+}
+
+/// How many literals the elements of a choice have.
+fn elements_literals(elements: &[Element]) -> u64
+    ensures { result ≡ capped (sum_by (λ e. 1 + length e.cond) elements.now) }
+{
+    let mut count = 0_u64;
+    for element in elements {
+        count = count
+            .saturating_add(1)
+            .saturating_add(element.cond.len() as u64);
+    }
+    count
+}
+
+/// How many literals a rule has.
+fn rule_literals(rule: &Rule) -> u64
+    ensures { result ≡ capped (rule_literals rule.now) }
+{
+    let head = match &rule.head {
+        Head::Disj(atoms) => atoms.len() as u64,
+        Head::Choice(elements) => elements_literals(elements.as_slice()),
+    };
+    head.saturating_add(rule.body.len() as u64)
+}
+
+/// The greatest count of a rule's literals.
+pub fn most_literals(rules: &[&Rule]) -> u64
+    ensures { result ≡ capped (greatest (map rule_literals (map (λ r. r.now) rules.now))) }
+{
+    let mut most = 0_u64;
+    for rule in rules {
+        most = most.max(rule_literals(rule));
+    }
+    most
+}
+
+/// The greater of a count and that of a rule's variables, which aren't told apart where no more than the count are
+/// written.
+fn rule_variables(alloc: Global, most: u64, rule: &Rule) -> Result<u64, NoMemory>
+    ensures { IfOk result (λ greater. greater ≡ max most (variable_count rule.now)) }
+{
+    let written = variables(alloc, rule)?;
+    if written.len() as u64 <= most {
+        return Ok(most);
+    }
+    let count = count_distinct(alloc, written.as_slice())?;
+    Ok(most.max(count as u64))
+}
+
+/// The greatest count of a rule's variables.
+pub fn most_variables(alloc: Global, rules: &[&Rule]) -> Result<u64, NoMemory>
+    ensures { IfOk result (λ most. most ≡ greatest (map variable_count (map (λ r. r.now) rules.now))) }
+{
+    let mut most = 0_u64;
+    for rule in rules {
+        most = rule_variables(alloc, most, rule)?;
+    }
+    Ok(most)
+}
+
+/// The greatest count that a limit allows.
+pub fn limit(which: Which) -> u64
+    ensures { result ≡ limit which }
+{
+    match which {
+        Which::Bytes => 1_048_576,
+        Which::Levels => 16,
+        Which::Arguments => 16,
+        Which::Literals => 64,
+        Which::Variables => 16,
+        Which::Constants => 4_096,
+        Which::Atoms => 262_144,
+        Which::Instances => 4_000_000,
+    }
+}
+
+/// The greatest count that a refusal shows.
+const MOST_SHOWN: u64 = 1_000_000_000_000_000_000;
+
+/// A count that passes its limit, as a refusal shows it.
+pub fn past_limit(which: Which, count: u64) -> Option<(Which, u64)>
+    ensures { result ≡ past_limit which count }
+{
+    if count > limit(which) {
+        Some((which, count.min(MOST_SHOWN)))
+    } else {
+        None
+    }
+}

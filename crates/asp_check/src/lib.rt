@@ -1,0 +1,21 @@
+//! The checks of a program as it is written: its safety, the form of its constraint part, and its size.
+//!
+//! In reading order: `variables` (the variables of a rule, as they are written), `bindings` (what a body binds by
+//! itself, and what its equations link), `index` (where the links from a variable
+//! stand), `closure` (the variables that are safe by them), `safety` (the unsafe variables
+//! of a rule), `counts` (what the limits count), `checks` (the answer for a program).
+#![tactic(auto)]
+
+mod bindings;
+mod checks;
+mod closure;
+mod counts;
+mod index;
+pub mod laws;
+mod safety;
+mod variables;
+
+pub use checks::{CheckFault, Checked, check};
+
+#[cfg(test)]
+mod tests;

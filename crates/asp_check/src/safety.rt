@@ -1,0 +1,273 @@
+//! The unsafe variables of a rule.
+ghost use Rattle.std.specs.Prelude.{◌≡◌, ◌++◌, ℕ, not, length, OnOk, IfOk, IsTrue};
+ghost use Rattle.std.specs.List.{flat_map, filter, find, list_all};
+ghost use Rattle.std.specs.Option.{option_map};
+ghost use Rattle.asp_defs.specs.Instances.{atom_variables, literal_variables, first_occurrences};
+ghost use Rattle.asp_defs.specs.Safety.{
+  is_variable_of,
+  element_variables,
+  rule_variables,
+  safe_variables,
+  unbound,
+  head_unsafe,
+  rule_unsafe,
+  first_unsafe,
+  shown_variable,
+};
+ghost use Rattle.asp_check.specs.Variables.{term_of, terms_of};
+ghost use Rattle.asp_check.specs.Bindings.{bound_alone, literal_links, links_of};
+ghost use Rattle.asp_check.specs.Closure.{IsLeast};
+ghost use Rattle.asp_check.specs.Safe.{AgreeOn, Agree, element_unsafe};
+
+use crate::bindings::add_bindings;
+use crate::closure::{close, has, settle_all};
+use crate::variables::{Variable, add_atoms, add_element, add_literals, variables};
+use asp_defs::{Element, Head, Literal, Name, NoMemory, Rule, Var};
+use std::alloc::Global;
+use std::collections::HashSet;
+
+/// Whether all of the variables are in a set.
+fn has_all<'a>(set: &HashSet<Variable<'a>>, variables: &[Variable<'a>]) -> bool
+    ensures { result ≡ list_all (is_variable_of (terms_of set.now.keys)) (terms_of variables.now) }
+{
+    for variable in variables {
+        if !has(set, *variable) {
+            return false;
+        }
+    }
+    true
+}
+
+/// Adds those of the variables that are in a set.
+fn add_common<'a>(
+    out: &mut Vec<Variable<'a>>,
+    set: &HashSet<Variable<'a>>,
+    variables: &[Variable<'a>],
+) -> Result<(), NoMemory>
+    ensures { OnOk result (terms_of out.new.items
+        ≡ terms_of out.old.items ++ filter (is_variable_of (terms_of set.now.keys)) (terms_of variables.now)) }
+{
+    for variable in variables {
+        if has(set, *variable) {
+            out.push(*variable)?;
+        }
+    }
+    Ok(())
+}
+
+/// Adds those of the variables that aren't in a set.
+fn add_others<'a>(
+    out: &mut Vec<Variable<'a>>,
+    set: &HashSet<Variable<'a>>,
+    variables: &[Variable<'a>],
+) -> Result<(), NoMemory>
+    ensures { OnOk result (terms_of out.new.items
+        ≡ terms_of out.old.items
+        ++ filter (λ v. not (is_variable_of (terms_of set.now.keys) v)) (terms_of variables.now)) }
+{
+    for variable in variables {
+        if !has(set, *variable) {
+            out.push(*variable)?;
+        }
+    }
+    Ok(())
+}
+
+/// The safe variables of two bodies together.
+fn safe_of_both<'a>(
+    alloc: Global,
+    body: &'a [Literal],
+    more: &'a [Literal],
+) -> Result<HashSet<Variable<'a>>, NoMemory>
+    ensures { IfOk result (λ set. Agree (terms_of set.keys) (safe_variables (body.now ++ more.now))) }
+{
+    let mut bound = Vec::new(alloc);
+    let mut links = Vec::new(alloc);
+    add_bindings(&mut bound, &mut links, body)?;
+    add_bindings(&mut bound, &mut links, more)?;
+    close(alloc, bound.as_slice(), links.as_slice())
+}
+
+/// The safe variables of a body.
+fn safe_of_body<'a>(alloc: Global, body: &'a [Literal]) -> Result<HashSet<Variable<'a>>, NoMemory>
+    ensures { IfOk result (λ set. Agree (terms_of set.keys) (safe_variables body.now)) }
+{
+    let mut bound = Vec::new(alloc);
+    let mut links = Vec::new(alloc);
+    add_bindings(&mut bound, &mut links, body)?;
+    close(alloc, bound.as_slice(), links.as_slice())
+}
+
+/// The least variables with what an element's condition binds by itself and what a body has of the element's variables.
+fn safe_beside<'a>(
+    alloc: Global,
+    safe: &HashSet<Variable<'a>>,
+    cond: &'a [Literal],
+    variables: &[Variable<'a>],
+) -> Result<HashSet<Variable<'a>>, NoMemory>
+    ensures { IfOk result (λ set. IsLeast
+        (flat_map bound_alone cond.now ++ filter (is_variable_of (terms_of safe.now.keys)) (terms_of variables.now))
+        (flat_map literal_links cond.now)
+        (terms_of set.keys)) }
+{
+    let mut bound = Vec::new(alloc);
+    let mut links = Vec::new(alloc);
+    add_bindings(&mut bound, &mut links, cond)?;
+    add_common(&mut bound, safe, variables)?;
+    close(alloc, bound.as_slice(), links.as_slice())
+}
+
+/// The safe ones of an element's variables, where the body's are known. Where all variables of the body are safe, its
+/// literals aren't looked at again.
+fn safe_of_element<'a>(
+    alloc: Global,
+    body: &'a [Literal],
+    safe: &HashSet<Variable<'a>>,
+    is_whole: bool,
+    element: &'a Element,
+    variables: &[Variable<'a>],
+) -> Result<HashSet<Variable<'a>>, NoMemory>
+    requires safe { Agree (terms_of safe.now.keys) (safe_variables body.now) }
+    requires whole { is_whole ≡ list_all (is_variable_of (terms_of safe.now.keys)) (flat_map literal_variables body.now) }
+    requires variables { terms_of variables.now ≡ element_variables element.now }
+    ensures { IfOk result (λ set. AgreeOn (terms_of variables.now) (terms_of set.keys)
+        (safe_variables (body.now ++ element.now.cond))) }
+{
+    let cond = element.cond.as_slice();
+    if is_whole {
+        safe_beside(alloc, safe, cond, variables)
+    } else {
+        safe_of_both(alloc, body, cond)
+    }
+}
+
+/// Adds the unsafe variables of an element.
+fn add_element_unsafe<'a>(
+    alloc: Global,
+    out: &mut Vec<Variable<'a>>,
+    body: &'a [Literal],
+    safe: &HashSet<Variable<'a>>,
+    is_whole: bool,
+    element: &'a Element,
+) -> Result<(), NoMemory>
+    requires safe { Agree (terms_of safe.now.keys) (safe_variables body.now) }
+    requires whole { is_whole ≡ list_all (is_variable_of (terms_of safe.now.keys)) (flat_map literal_variables body.now) }
+    ensures { OnOk result (terms_of out.new.items ≡ terms_of out.old.items ++ element_unsafe body.now element.now) }
+{
+    let mut variables = Vec::new(alloc);
+    add_element(&mut variables, element)?;
+    let set = safe_of_element(alloc, body, safe, is_whole, element, variables.as_slice())?;
+    add_others(out, &set, variables.as_slice())
+}
+
+/// Adds the unsafe variables of elements.
+fn add_elements_unsafe<'a>(
+    alloc: Global,
+    out: &mut Vec<Variable<'a>>,
+    body: &'a [Literal],
+    safe: &HashSet<Variable<'a>>,
+    is_whole: bool,
+    elements: &'a [Element],
+) -> Result<(), NoMemory>
+    requires safe { Agree (terms_of safe.now.keys) (safe_variables body.now) }
+    requires whole { is_whole ≡ list_all (is_variable_of (terms_of safe.now.keys)) (flat_map literal_variables body.now) }
+    ensures { OnOk result (terms_of out.new.items
+        ≡ terms_of out.old.items ++ flat_map (element_unsafe body.now) elements.now) }
+{
+    for element in elements {
+        add_element_unsafe(alloc, out, body, safe, is_whole, element)?;
+    }
+    Ok(())
+}
+
+/// Adds the unsafe variables of a head.
+fn add_head_unsafe<'a>(
+    alloc: Global,
+    out: &mut Vec<Variable<'a>>,
+    body: &'a [Literal],
+    safe: &HashSet<Variable<'a>>,
+    is_whole: bool,
+    head: &'a Head,
+) -> Result<(), NoMemory>
+    requires safe { Agree (terms_of safe.now.keys) (safe_variables body.now) }
+    requires whole { is_whole ≡ list_all (is_variable_of (terms_of safe.now.keys)) (flat_map literal_variables body.now) }
+    ensures { OnOk result (terms_of out.new.items ≡ terms_of out.old.items ++ head_unsafe body.now head.now) }
+{
+    match head {
+        Head::Disj(atoms) => {
+            let mut variables = Vec::new(alloc);
+            add_atoms(&mut variables, atoms.as_slice())?;
+            add_others(out, safe, variables.as_slice())
+        }
+        Head::Choice(elements) => {
+            add_elements_unsafe(alloc, out, body, safe, is_whole, elements.as_slice())
+        }
+    }
+}
+
+/// The unsafe variables of a rule.
+fn rule_unsafe<'a>(alloc: Global, rule: &'a Rule) -> Result<Vec<Variable<'a>>, NoMemory>
+    ensures { IfOk result (λ out. terms_of out.items ≡ rule_unsafe rule.now) }
+{
+    let body = rule.body.as_slice();
+    let mut variables = Vec::new(alloc);
+    add_literals(&mut variables, body)?;
+    let safe = safe_of_body(alloc, body)?;
+    let is_whole = has_all(&safe, variables.as_slice());
+    let mut out = Vec::new(alloc);
+    add_head_unsafe(alloc, &mut out, body, &safe, is_whole, &rule.head)?;
+    add_others(&mut out, &safe, variables.as_slice())?;
+    Ok(out)
+}
+
+/// The first of the variables that is one of some others.
+fn first_of<'a>(
+    alloc: Global,
+    variables: &[Variable<'a>],
+    others: &[Variable<'a>],
+) -> Result<Option<Variable<'a>>, NoMemory>
+    ensures { IfOk result (λ found. option_map term_of found
+        ≡ find (is_variable_of (terms_of others.now)) (terms_of variables.now)) }
+{
+    let mut set = HashSet::new(alloc);
+    let mut queue = Vec::new(alloc);
+    settle_all(&mut set, &mut queue, others)?;
+    for variable in variables {
+        if has(&set, *variable) {
+            return Ok(Some(*variable));
+        }
+    }
+    Ok(None)
+}
+
+/// The unsafe variable of a rule that is written first.
+pub fn first_unsafe<'a>(alloc: Global, rule: &'a Rule) -> Result<Option<Variable<'a>>, NoMemory>
+    ensures { IfOk result (λ found. option_map term_of found ≡ first_unsafe rule.now) }
+{
+    let others = rule_unsafe(alloc, rule)?;
+    if others.is_empty() {
+        return Ok(None);
+    }
+    let variables = variables(alloc, rule)?;
+    first_of(alloc, variables.as_slice(), others.as_slice())
+}
+
+/// The variable as refusals show it, its name copied.
+pub fn shown(alloc: Global, variable: Variable<'_>) -> Result<Var, NoMemory>
+    ensures { IfOk result (λ shown. shown ≡ shown_variable (term_of variable.entry)) }
+{
+    match variable {
+        Variable::Named(name) => Ok(Var::Named(Name::from_slice(alloc, name)?)),
+        Variable::Anon(_) => Ok(Var::Anon),
+    }
+}
+
+/// How many distinct variables there are.
+pub fn count_distinct<'a>(alloc: Global, variables: &[Variable<'a>]) -> Result<usize, NoMemory>
+    ensures { IfOk result (λ count. count ≡ length (first_occurrences (terms_of variables.now))) }
+{
+    let mut set = HashSet::new(alloc);
+    let mut queue = Vec::new(alloc);
+    settle_all(&mut set, &mut queue, variables)?;
+    Ok(queue.len())
+}

@@ -1,0 +1,11 @@
+pub mod Walks
+pub mod Complete
+pub mod Rests
+pub mod Numbers
+pub mod Sound
+pub mod Flags
+pub mod Closings
+pub mod Verdict
+pub mod Refusals
+pub mod Answered
+pub mod Counts
