@@ -1,12 +1,12 @@
 -- Tables of a trail that goes back to its first steps.
-use Rattle.std.proofs.Common.{◌≡◌, ◌≢◌, ℕ, zero, suc, ◌+◌, ◌-◌, ◌*◌, ◌/◌, ◌<◌, ◌≤◌, ◌⊎◌, Bool, true, false, List, [], ◌∷◌, ◌++◌, length, get_or, take, refl, sym, ◌∙◌, ap, arith, inl, inr, subst, Option, Some, None}
+use Rattle.std.proofs.Common.{◌≡◌, ◌≢◌, ℕ, ◌+◌, ◌*◌, ◌/◌, ◌<◌, ◌≤◌, Bool, true, false, List, length, get_or, take, refl, sym, ◌∙◌, ap, arith, inl, inr, subst, Option, Some, None}
 use Rattle.std.proofs.lemmas.List.{take-take, length-take-le}
-use Rattle.std.proofs.lemmas.Bool.{cases_lt, cases_eq}
+use Rattle.std.proofs.lemmas.Bool.{cases_lt}
 use Rattle.std.proofs.lemmas.Bool.{cases_order}
 use Rattle.asp_clauses.specs.declared.trail.Step.{Step}
 use Rattle.asp_clauses.specs.Literal.{negated}
-use Rattle.asp_clauses.specs.Trail.{no_step, step_at, literal_at, decisions, IsPlaced, IsUnassigned, IsValue}
-use Rattle.asp_clauses.specs.Tables.{AreTables}
+use Rattle.asp_clauses.specs.Trail.{literal_at, decisions, IsPlaced}
+use Rattle.asp_clauses.specs.Tables.{Tells, AreTables}
 use Rattle.asp_clauses.specs.Moves.{IsCleared}
 use Rattle.asp_clauses.proofs.LiteralLemmas.{negated-half, negated-negated}
 use Rattle.asp_clauses.proofs.StepsLemmas.{step_at-take}
@@ -34,7 +34,7 @@ only_there steps atom place other d a b e f = elim (cases_order place other) [
   ]
 ]
 
-value_back : (atoms : ℕ) (steps : List Step) (truths now : List (Option Bool)) (places depths : List ℕ) (n code : ℕ) → AreTables atoms steps truths places depths → TakenBack steps n truths now → code < 2 * atoms → (r : Option Bool) → r ≡ get_or truths code None → IsValue (take n steps) code (get_or now code None)
+value_back : (atoms : ℕ) (steps : List Step) (truths now : List (Option Bool)) (places depths : List ℕ) (n code : ℕ) → AreTables atoms steps truths places depths → TakenBack steps n truths now → code < 2 * atoms → (r : Option Bool) → r ≡ get_or truths code None → Tells (take n steps) code (get_or now code None)
 value_back atoms steps truths now places depths n code t b h None e =
     let l = length-take-le n steps b.within in
     let un = (t.values code h).unassigned (sym e) in

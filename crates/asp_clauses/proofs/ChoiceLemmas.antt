@@ -1,5 +1,5 @@
 -- The order in which literals became false.
-use Rattle.std.proofs.Common.{◌≡◌, ◌≢◌, ℕ, zero, suc, ◌+◌, ◌-◌, ◌*◌, ◌/◌, ◌^◌, ◌<◌, ◌≤◌, ◌⊎◌, Bool, true, false, List, [], ◌∷◌, ◌++◌, length, get_or, set, map, refl, sym, ◌∙◌, ap, arith, inl, inr, subst, length-set}
+use Rattle.std.proofs.Common.{◌≡◌, ◌≢◌, ℕ, zero, suc, ◌+◌, ◌*◌, ◌<◌, ◌≤◌, List, length, get_or, set, sym, ◌∙◌, ap, arith, inl, inr, subst, length-set}
 use Rattle.std.specs.List.{swap}
 use Rattle.std.specs.List.Sorted.{IsPermutation}
 use Rattle.std.proofs.lemmas.List.Sorted.{IsPermutation-swap, IsPermutation-trans}
@@ -7,13 +7,13 @@ use Rattle.std.proofs.lemmas.Bool.{cases_lt, cases_eq}
 use Rattle.asp_clauses.specs.declared.trail.Step.{Step}
 use Rattle.asp_clauses.specs.declared.watches.Watches.{Watches}
 use Rattle.asp_clauses.specs.Literal.{negated}
-use Rattle.asp_clauses.specs.Records.{row_at, literals_of, end}
+use Rattle.asp_clauses.specs.Records.{row_at, literals_of}
 use Rattle.asp_clauses.specs.Trail.{TrailState, IsPlaced, literal_at}
 use Rattle.asp_clauses.specs.Book.{visit_at}
-use Rattle.asp_clauses.specs.Watches.{IsRecord, IsStore}
+use Rattle.asp_clauses.specs.Watches.{IsStore}
 use Rattle.asp_clauses.specs.Choices.{IsLatest, IsFalseBy, IsLastFrom, Chooses, Orders}
 use Rattle.asp_clauses.proofs.LiteralLemmas.{negated-negated}
-use Rattle.asp_clauses.proofs.WatchLemmas.{length-swap, swap_first, swap_second, swap_other, row_size, length_literals, literals_of-swap, IsRecord-swap, row_set_same, row_set_other}
+use Rattle.asp_clauses.proofs.WatchLemmas.{swap_first, swap_second, swap_other, row_size, length_literals, literals_of-swap, IsRecord-swap, row_set_same, row_set_other}
 use Rattle.asp_clauses.proofs.MoveLemmas.{IsStore-row}
 
 -- what was visited is false
@@ -94,7 +94,7 @@ Chooses-best old new trail clause index best s h hi hb b same records =
             | inl is ↦ (visit, omega arith, e ∙ sym (ap (λ (n : ℕ). get_or new_row (3 + n) 0) is))
             | inr ni ↦ elim (cases_eq o best) [
               | inl is ↦ let f = b.last index visit (omega arith) hi l then_best in (f.0, f.1, f.2 ∙ sym (ap (λ (n : ℕ). get_or new_row (3 + n) 0) is ∙ swap_second row (3 + index) (3 + best) li lb))
-              | inr nb ↦ let f = b.last o visit a lt l then_best in (f.0, f.1, f.2 ∙ sym (swap_other row (3 + index) (3 + best) (3 + o) li lb (omega (arith, ni)) (omega (arith, nb))))
+              | inr nb ↦ let f = b.last o visit a lt l then_best in (f.0, f.1, ◌∙◌ {a = visit_at trail.atoms trail.steps f.0} f.2 (sym (swap_other row (3 + index) (3 + best) (3 + o) li lb (omega (arith, ni)) (omega (arith, nb)))))
             ]
           ]);
     }
@@ -175,6 +175,6 @@ Orders-two old one two trail clause s h some c more d =
       first = λ other visit a b l e.
           let place = swapped_place row d.best.0 other (get_or row 0 0) more d.best.2 (omega (arith, b, y.size)) size.1 in
           let f = c.last place.0 visit (omega arith) place.1 l (e ∙ first_kept) in
-          (f.0, f.1, f.2 ∙ sym place.2 ∙ sym (ap (λ (z : List ℕ). get_or z (3 + other) 0) y.here));
+          (f.0, f.1, ◌∙◌ {a = visit_at trail.atoms trail.steps f.0} f.2 (sym place.2 ∙ sym (ap (λ (z : List ℕ). get_or z (3 + other) 0) y.here)));
       second = d.last;
     }

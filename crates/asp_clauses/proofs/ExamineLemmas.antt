@@ -1,6 +1,6 @@
 -- The first look at a clause.
-use Rattle.std.proofs.Common.{◌≡◌, ◌≢◌, ℕ, zero, suc, ◌+◌, ◌-◌, ◌*◌, ◌/◌, ◌^◌, ◌<◌, ◌≤◌, ◌⊎◌, Bool, true, false, List, [], ◌∷◌, ◌++◌, length, get_or, set, take, map, min, refl, sym, ◌∙◌, ap, arith, inl, inr, subst, Some}
-use Rattle.std.proofs.lemmas.List.{length-map, append-nil, append_assoc, take_all, length_push, get_or_append_left, get_or-append_right}
+use Rattle.std.proofs.Common.{◌≡◌, ◌≢◌, ℕ, ◌+◌, ◌-◌, ◌*◌, ◌<◌, ◌≤◌, ◌⊎◌, List, [], ◌∷◌, ◌++◌, length, get_or, take, map, refl, sym, ◌∙◌, ap, arith, inl, inr, subst, Some}
+use Rattle.std.proofs.lemmas.List.{length-map, append-nil, append_assoc, take_all, get_or_append_left, get_or-append_right}
 use Rattle.std.proofs.Common.{length-append}
 use Rattle.std.proofs.lemmas.List.Sorted.{IsPermutation-refl}
 use Rattle.std.specs.List.Sorted.{IsPermutation}
@@ -9,20 +9,19 @@ use Rattle.asp_clauses.specs.declared.trail.Step.{Step}
 use Rattle.asp_clauses.specs.declared.trail.Mark.{Mark}
 use Rattle.asp_clauses.specs.declared.watches.Watches.{Watches}
 use Rattle.asp_clauses.specs.Literal.{negated}
-use Rattle.asp_clauses.specs.Records.{row_at, literals_of, end}
-use Rattle.asp_clauses.specs.Trail.{TrailState, IsPlaced, IsUnassigned, IsFalse, IsUnit, Implies, literal_at, step_at, mark_at, clause_at, is_decision, no_step}
-use Rattle.asp_clauses.specs.Moves.{placed, Lowers, lowered}
-use Rattle.asp_clauses.specs.Book.{BookState, SameClauses, visit_at, IsGuarded, IsWatched, AllWatched, Goes}
-use Rattle.asp_clauses.specs.Watches.{IsRecord, IsStore, IsListed, AreWatches, AreThreads, ListsOf, WatchingBelow, book_of}
-use Rattle.asp_clauses.specs.Visits.{WatchesOneMore, Extends, ExtendsBy, Propagates, IsStopped, IsConflict}
-use Rattle.asp_clauses.specs.Choices.{Orders, MadeTrue, IsBarred}
-use Rattle.asp_clauses.proofs.StepsLemmas.{IsPlaced-push, IsPlaced-from_take}
+use Rattle.asp_clauses.specs.Records.{row_at, literals_of}
+use Rattle.asp_clauses.specs.Trail.{TrailState, IsPlaced, IsUnassigned, IsFalse, Implies, step_at, mark_at, clause_at, is_decision, no_step}
+use Rattle.asp_clauses.specs.Moves.{Lowers}
+use Rattle.asp_clauses.specs.Book.{SameClauses, visit_at, IsGuarded, IsWatched, Goes}
+use Rattle.asp_clauses.specs.Watches.{IsRecord, AreWatches, AreThreads, ListsOf, WatchingBelow, book_of}
+use Rattle.asp_clauses.specs.Visits.{WatchesOneMore, Extends, Propagates, IsStopped, IsConflict}
+use Rattle.asp_clauses.specs.Choices.{Orders, MadeTrue}
+use Rattle.asp_clauses.proofs.StepsLemmas.{IsPlaced-push}
 use Rattle.asp_clauses.proofs.FewLemmas.{not_both}
 use Rattle.asp_clauses.proofs.StoreLemmas.{clause_at-book, AreThreads-same, ListsOf-same}
-use Rattle.asp_clauses.proofs.WatchLemmas.{cell_in_range, watch_code}
-use Rattle.asp_clauses.proofs.ChoiceLemmas.{visited_placed, placed_visited}
+use Rattle.asp_clauses.proofs.WatchLemmas.{cell_in_range}
 use Rattle.asp_clauses.proofs.GoesLemmas.{visit_at-take}
-use Rattle.asp_clauses.proofs.ReorderLemmas.{SameClauses-refl, SameClauses-trans, SameClauses-from, SameClauses-rows, Goes-reordered, Goes-made_true, Goes-lowered, Goes-watched, IsWatched-row, never_visited, IsFalse-row, Implies-row, last_false}
+use Rattle.asp_clauses.proofs.ReorderLemmas.{SameClauses-rows, Goes-reordered, Goes-lowered, Goes-watched, IsWatched-row, never_visited, IsFalse-row, Implies-row, last_false}
 
 -- ---- trails that grow
 pub Extends-refl : (trail : TrailState) → Extends trail trail

@@ -1,6 +1,6 @@
 -- Different numbers below a bound are at most as many as the bound.
-use Rattle.std.proofs.Common.{◌≡◌, ◌≢◌, ℕ, zero, suc, ◌+◌, ◌-◌, ◌*◌, ◌/◌, ◌<◌, ◌≤◌, ◌⊎◌, Bool, true, false, ◌||◌, eqb, List, [], ◌∷◌, length, get_or, map, refl, sym, ◌∙◌, ap, arith, inl, inr, subst}
-use Rattle.std.specs.List.{list_any, IsDistinct}
+use Rattle.std.proofs.Common.{◌≡◌, ◌≢◌, ℕ, zero, suc, ◌+◌, ◌*◌, ◌/◌, ◌<◌, ◌≤◌, Bool, true, false, ◌||◌, eqb, List, [], ◌∷◌, length, get_or, map, refl, sym, ◌∙◌, ap, arith, inl, inr, subst}
+use Rattle.std.specs.List.{list_any}
 use Rattle.std.proofs.lemmas.List.{get_or-map, length-map, get_or_default}
 use Rattle.std.proofs.lemmas.Bool.{cases_Bool, cases_order}
 use Rattle.std.proofs.Common.{Option}
@@ -8,10 +8,10 @@ use Rattle.std.proofs.lemmas.Bool.Decides.{nat_tests}
 use Rattle.std.proofs.lemmas.Map.Steps.{length-le_from_distinct_below}
 use Rattle.std.proofs.lemmas.Map.Keys.{IsDistinct-from_apart}
 use Rattle.asp_clauses.specs.declared.trail.Step.{Step}
-use Rattle.asp_clauses.specs.Trail.{no_step, step_at, literal_at, IsUnassigned, IsPlaced, IsValue, IsLawful}
+use Rattle.asp_clauses.specs.Trail.{no_step, literal_at, IsUnassigned, IsPlaced, IsValue}
 use Rattle.asp_clauses.specs.Literal.{negated}
 use Rattle.asp_clauses.proofs.LiteralLemmas.{negated-half, negated-≢}
-use Rattle.asp_clauses.specs.Tables.{AreTables}
+use Rattle.asp_clauses.specs.Tables.{Tells, AreTables}
 use Rattle.asp_clauses.proofs.TableLemmas.{value_read, not_origin}
 use Rattle.std.proofs.Common.{Some, None}
 
@@ -90,7 +90,32 @@ stands_read atoms steps now truths places depths code r t e l h read no_false =
     let d = tables_distinct atoms steps truths places depths t in
     go r (value_read atoms steps now truths places depths code r t e l lt read) (subst (λ (x : List Step). (p q : ℕ) → p < q → q < length x → literal_at x p / 2 ≢ literal_at x q / 2) e d) no_false
   where
-    go : (r : Option Bool) → IsValue now code r → ((p q : ℕ) → p < q → q < length now → literal_at now p / 2 ≢ literal_at now q / 2) → (r ≡ Some false → ⊥) → IsPlaced now (negated code) → ⊥
+    go : (r : Option Bool) → Tells now code r → ((p q : ℕ) → p < q → q < length now → literal_at now p / 2 ≢ literal_at now q / 2) → (r ≡ Some false → ⊥) → IsPlaced now (negated code) → ⊥
     go None v d n = not_placed now code (negated code) (v.unassigned refl) (negated-half code)
     go (Some true) v d n = not_both now code d (v.holds refl)
     go (Some false) v d n = λ p. n refl
+
+-- no two values tell the same: a value is none exactly where the atom is unassigned
+value_tells : (steps : List Step) (literal : ℕ) (r : Option Bool) → ((p q : ℕ) → p < q → q < length steps → literal_at steps p / 2 ≢ literal_at steps q / 2) → Tells steps literal r → IsValue steps literal r
+value_tells steps literal None d v = record {
+  unassigned = (v.unassigned, λ u. refl);
+  holds = (v.holds, λ p. absurd (not_placed steps literal literal (v.unassigned refl) refl p));
+  fails = (v.fails, λ p. absurd (not_placed steps literal (negated literal) (v.unassigned refl) (negated-half literal) p));
+}
+value_tells steps literal (Some true) d v = record {
+  unassigned = (v.unassigned, λ u. absurd (not_placed steps literal literal u refl (v.holds refl)));
+  holds = (v.holds, λ p. refl);
+  fails = (v.fails, λ p. absurd (not_both steps literal d (v.holds refl) p));
+}
+value_tells steps literal (Some false) d v = record {
+  unassigned = (v.unassigned, λ u. absurd (not_placed steps literal (negated literal) u (negated-half literal) (v.fails refl)));
+  holds = (v.holds, λ p. absurd (not_both steps literal d p (v.fails refl)));
+  fails = (v.fails, λ p. refl);
+}
+
+-- a read of a value, exactly
+pub exact_read : (atoms : ℕ) (steps now : List Step) (truths : List (Option Bool)) (places depths : List ℕ) (code : ℕ) (r : Option Bool) → AreTables atoms steps truths places depths → steps ≡ now → length truths ≡ 2 * atoms + 1 → code < 2 * atoms → r ≡ get_or truths code r → IsValue now code r
+exact_read atoms steps now truths places depths code r t e l h read =
+    let d = tables_distinct atoms steps truths places depths t in
+    value_tells now code r (subst (λ (x : List Step). (p q : ℕ) → p < q → q < length x → literal_at x p / 2 ≢ literal_at x q / 2) e d)
+    (value_read atoms steps now truths places depths code r t e l h read)

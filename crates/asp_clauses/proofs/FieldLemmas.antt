@@ -1,5 +1,5 @@
 -- The fields of a trail, where a literal is placed.
-use Rattle.std.proofs.Common.{◌≡◌, ◌≢◌, ℕ, ◌+◌, ◌-◌, ◌*◌, ◌/◌, ◌<◌, ◌≤◌, List, [], ◌∷◌, ◌++◌, length, take, sym, ◌∙◌, ap, arith, subst}
+use Rattle.std.proofs.Common.{◌≡◌, ℕ, ◌*◌, ◌<◌, ◌≤◌, List, length, take, sym, ◌∙◌, ap, arith, subst}
 use Rattle.std.proofs.lemmas.List.{length-take-le, get_or_read, get_or-take, take-take, with_items_is}
 use Rattle.std.specs.Vec.{with_items}
 use Rattle.asp_clauses.specs.Moves.{lowered}

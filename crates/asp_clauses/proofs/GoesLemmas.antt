@@ -1,18 +1,15 @@
 -- What keeps a book and a trail together.
-use Rattle.std.proofs.Common.{◌≡◌, ◌≢◌, ℕ, zero, suc, ◌+◌, ◌-◌, ◌*◌, ◌/◌, ◌^◌, ◌<◌, ◌≤◌, ◌⊎◌, Bool, true, false, cond, List, [], ◌∷◌, ◌++◌, length, get_or, take, drop, refl, sym, ◌∙◌, ap, arith, inl, inr, subst, Option, Some, None}
-use Rattle.std.specs.List.{Contains}
+use Rattle.std.proofs.Common.{◌≡◌, ℕ, zero, suc, ◌+◌, ◌*◌, ◌/◌, ◌<◌, ◌≤◌, List, [], ◌∷◌, ◌++◌, length, take, drop, refl, sym, ◌∙◌, ap, arith, inl, inr, subst, Some, None}
 use Rattle.std.proofs.lemmas.List.{length_push, take-append-le, take_all, length-take-le, take-take, take-append-drop, drop_more, get_or-take}
-use Rattle.std.proofs.Common.{length-append}
-use Rattle.std.proofs.lemmas.Bool.{cases_lt, cases_Bool, cases_eq}
+use Rattle.std.proofs.lemmas.Bool.{cases_lt}
 use Rattle.asp_clauses.specs.declared.trail.Step.{Step}
 use Rattle.asp_clauses.specs.declared.trail.Mark.{Mark}
 use Rattle.asp_clauses.specs.Literal.{negated}
-use Rattle.asp_clauses.specs.Trail.{TrailState, no_step, step_at, literal_at, no_mark, mark_at, is_decision, decisions, IsPlaced, IsUnassigned, IsValue, IsReasoned, IsLawful, Implies, clause_at, number, back_to}
+use Rattle.asp_clauses.specs.Trail.{TrailState, no_step, step_at, literal_at, no_mark, mark_at, is_decision, decisions, IsUnassigned, IsReasoned, IsLawful, Implies, clause_at, number, back_to}
 use Rattle.asp_clauses.specs.Tables.{IsMark, AreMarks}
-use Rattle.asp_clauses.specs.Book.{BookState, visit_at, origin, first_watch, second_watch, IsGuarded, IsWatched, AllWatched, WatchesFit, Goes}
+use Rattle.asp_clauses.specs.Book.{BookState, visit_at, first_watch, second_watch, IsGuarded, IsWatched, AllWatched, WatchesFit, Goes}
 use Rattle.asp_clauses.specs.Moves.{placed, gone_back}
-use Rattle.asp_clauses.proofs.LiteralLemmas.{negated-half, same_half, negated-negated, negated-≢, negated-lt}
-use Rattle.asp_clauses.proofs.StepsLemmas.{place_cases, step_at-push, step_at-last, step_at-take, IsPlaced-push, IsPlaced-last, IsPlaced-from_take, IsUnassigned-push, back_to-take, decisions-take-mono, decisions-take-lt}
+use Rattle.asp_clauses.proofs.StepsLemmas.{place_cases, step_at-push, step_at-last, step_at-take, IsPlaced-push, back_to-take, decisions-take-mono}
 use Rattle.asp_clauses.proofs.NumberLemmas.{number_raised, number_replaced, number-lt, three_pos}
 use Rattle.asp_clauses.proofs.TableLemmas.{AreMarks-implied, AreMarks-decided, mark_here, mark_at-push, mark_at-last, level_cases}
 

@@ -1,5 +1,5 @@
 -- Lists of watching clauses: one more at the front, and one taken out.
-use Rattle.std.proofs.Common.{◌≡◌, ◌≢◌, ℕ, zero, suc, ◌+◌, ◌-◌, ◌*◌, ◌<◌, ◌≤◌, ◌⊎◌, Bool, true, false, cond, eqb, List, [], ◌∷◌, length, get_or, set, refl, sym, ◌∙◌, ap, arith, inl, inr, subst, add-one}
+use Rattle.std.proofs.Common.{◌≡◌, ◌≢◌, ℕ, zero, suc, ◌+◌, ◌-◌, ◌*◌, ◌<◌, ◌≤◌, ◌⊎◌, Bool, true, false, cond, eqb, List, ◌∷◌, length, get_or, sym, ◌∙◌, ap, arith, inl, inr, subst}
 use Rattle.std.specs.List.{remove}
 use Rattle.std.proofs.lemmas.Bool.{cases_lt, cases_eq}
 use Rattle.std.proofs.lemmas.Bool.Decides.{nat_tests}
@@ -7,7 +7,6 @@ use Rattle.std.proofs.lemmas.List.Edits.{get_or-remove_below, get_or-remove_abov
 use Rattle.asp_clauses.specs.Records.{end}
 use Rattle.asp_clauses.specs.Watches.{ListsOf}
 use Rattle.asp_clauses.specs.Visits.{consed, removed}
-use Rattle.asp_clauses.proofs.FewLemmas.{distinct_few}
 
 eqb_same : (x y : ℕ) → x ≡ y → eqb x y ≡ true
 eqb_same x y e = grind (arith, nat_tests)

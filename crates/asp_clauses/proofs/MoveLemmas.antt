@@ -1,16 +1,14 @@
 -- Lists of watching clauses through the steps of the code.
-use Rattle.std.proofs.Common.{◌≡◌, ◌≢◌, ℕ, zero, suc, ◌+◌, ◌-◌, ◌*◌, ◌/◌, ◌^◌, ◌<◌, ◌≤◌, ◌⊎◌, Bool, true, false, List, [], ◌∷◌, ◌++◌, length, get_or, set, map, refl, sym, ◌∙◌, ap, arith, inl, inr, subst, length-set}
-use Rattle.std.specs.List.{swap, remove}
-use Rattle.std.proofs.lemmas.Bool.{cases_lt, cases_eq}
-use Rattle.std.proofs.lemmas.List.{get_or-set_same, get_or-set_other, map-set, set-get_or, get_or-map}
+use Rattle.std.proofs.Common.{◌≡◌, ◌≢◌, ℕ, ◌+◌, ◌*◌, ◌<◌, ◌≤◌, ◌⊎◌, List, [], length, get_or, set, map, refl, sym, ◌∙◌, ap, arith, inl, inr, subst, length-set}
+use Rattle.std.proofs.lemmas.Bool.{cases_eq}
+use Rattle.std.proofs.lemmas.List.{get_or-set_same, get_or-set_other, map-set, set-get_or}
 use Rattle.asp_clauses.specs.declared.watches.Watches.{Watches}
 use Rattle.asp_clauses.specs.Records.{row_at, literals_of, end}
-use Rattle.asp_clauses.specs.Book.{IsClause, origin}
-use Rattle.asp_clauses.specs.Watches.{IsRecord, side_of, link_of, Watching, WatchingBelow, AreThreads, ListsOf, IsStore, IsListed, AreWatches, book_of}
-use Rattle.asp_clauses.specs.Visits.{consed, removed, moved, IsAt, Links, Unlinks, MovesWatch, WatchesOneMore, other_watch}
+use Rattle.asp_clauses.specs.Watches.{IsRecord, side_of, link_of, WatchingBelow, AreThreads, ListsOf, IsStore, IsListed}
+use Rattle.asp_clauses.specs.Visits.{consed, Links}
 use Rattle.asp_clauses.proofs.StoreLemmas.{clause_at-book}
-use Rattle.asp_clauses.proofs.ListLemmas.{Threaded, Threaded-cons, Threaded-remove, ListsOf-cons, ListsOf-remove}
-use Rattle.asp_clauses.proofs.WatchLemmas.{length-swap, swap_first, swap_second, swap_other, row_size, length_literals, literal_in_row, cell_in_range, watch_code, watches_differ, side_first, side_second, side_cases, side-lt, at_side, sides_differ, side_of-same, literals_of-link, link_cell, IsRecord-link, literals_of-swap, IsRecord-swap, row_set_same, row_set_other}
+use Rattle.asp_clauses.proofs.ListLemmas.{Threaded-cons, ListsOf-cons}
+use Rattle.asp_clauses.proofs.WatchLemmas.{row_size, watch_code, watches_differ, side_first, side_second, side_of-same, literals_of-link, link_cell, IsRecord-link, row_set_same, row_set_other}
 
 -- a store where one row changes
 pub IsStore-row : (old new : Watches) (clause : ℕ) (row : List ℕ) → IsStore old → new.atoms ≡ old.atoms → new.watched ≡ old.watched → length new.heads.items ≡ length old.heads.items → new.records ≡ set old.records clause row → clause < length old.records → IsRecord old.atoms row → get_or row 0 0 ≡ get_or (row_at old.records clause) 0 0 → IsStore new

@@ -1,16 +1,15 @@
 -- The lists after a watch has moved.
-use Rattle.std.proofs.Common.{◌≡◌, ◌≢◌, ℕ, zero, suc, ◌+◌, ◌-◌, ◌*◌, ◌/◌, ◌^◌, ◌<◌, ◌≤◌, ◌⊎◌, Bool, true, false, List, [], ◌∷◌, ◌++◌, length, get_or, set, map, refl, sym, ◌∙◌, ap, arith, inl, inr, subst, length-set}
-use Rattle.std.specs.List.{swap, remove}
-use Rattle.std.proofs.lemmas.Bool.{cases_lt, cases_eq}
-use Rattle.std.proofs.lemmas.List.{get_or-set_same, get_or-set_other}
+use Rattle.std.proofs.Common.{◌≡◌, ◌≢◌, ℕ, ◌+◌, ◌-◌, ◌*◌, ◌<◌, ◌≤◌, ◌⊎◌, List, length, get_or, set, refl, sym, ◌∙◌, ap, arith, inl, inr, subst, length-set}
+use Rattle.std.specs.List.{swap}
+use Rattle.std.proofs.lemmas.Bool.{cases_eq}
 use Rattle.asp_clauses.specs.declared.watches.Watches.{Watches}
 use Rattle.asp_clauses.specs.Records.{row_at, literals_of, end}
-use Rattle.asp_clauses.specs.Watches.{IsRecord, side_of, link_of, Watching, WatchingBelow, AreThreads, ListsOf, IsStore, IsListed}
-use Rattle.asp_clauses.specs.Visits.{consed, removed, moved, IsAt, Links, Unlinks, MovesWatch, other_watch}
+use Rattle.asp_clauses.specs.Watches.{side_of, link_of, WatchingBelow, AreThreads, ListsOf, IsListed}
+use Rattle.asp_clauses.specs.Visits.{consed, removed, moved, IsAt, MovesWatch}
 use Rattle.asp_clauses.proofs.ListLemmas.{ListsOf-cons, ListsOf-remove}
-use Rattle.asp_clauses.proofs.WatchLemmas.{row_size, length_literals, cell_in_range, side_first, side_second, side_cases, side-lt, at_side, sides_differ, side_of-same, literals_of-link, link_cell, literals_of-swap, row_set_same, row_set_other}
+use Rattle.asp_clauses.proofs.WatchLemmas.{cell_in_range, side_first, side_second, side_cases, side-lt, at_side, sides_differ, side_of-same, literals_of-link, link_cell, literals_of-swap, row_set_same, row_set_other}
 use Rattle.asp_clauses.proofs.MoveLemmas.{AreThreads-linked, ListsOf-iff, length_linked}
-use Rattle.asp_clauses.proofs.UnlinkLemmas.{unlinked_others, length_unlinked, unlinked_cells, unlinked_literals, IsStore-unlinked, AreThreads-unlinked, SwapFacts, swap_facts, MoveSteps, MoveFrom, move_row, swap_of, size_before, swap_known, side_before, IsStore-swapped}
+use Rattle.asp_clauses.proofs.UnlinkLemmas.{length_unlinked, unlinked_cells, unlinked_literals, AreThreads-unlinked, MoveSteps, MoveFrom, move_row, swap_of, size_before, swap_known, side_before, IsStore-swapped}
 
 abbrev WatchedBy : List ℕ → ℕ → Type 0
 WatchedBy row literal = (get_or row 3 0 ≡ literal) ⊎ (get_or row 4 0 ≡ literal)

@@ -1,30 +1,28 @@
 -- Books whose clauses change the order of their literals, and what is then still known.
-use Rattle.std.proofs.Common.{◌≡◌, ◌≢◌, ℕ, zero, suc, ◌+◌, ◌-◌, ◌*◌, ◌/◌, ◌^◌, ◌<◌, ◌≤◌, ◌⊎◌, Bool, true, false, List, [], ◌∷◌, ◌++◌, length, get_or, set, take, map, min, refl, sym, ◌∙◌, ap, arith, inl, inr, subst, Some}
-use Rattle.std.specs.List.{swap, Contains}
+use Rattle.std.proofs.Common.{◌≡◌, ◌≢◌, ℕ, ◌+◌, ◌*◌, ◌<◌, ◌≤◌, List, length, get_or, take, map, min, refl, sym, ◌∙◌, ap, arith, inl, inr, subst}
+use Rattle.std.specs.List.{Contains}
 use Rattle.std.specs.List.Sorted.{IsPermutation}
 use Rattle.std.proofs.lemmas.List.Sorted.{Contains-permutation, IsPermutation-sym, IsPermutation-refl, IsPermutation-trans}
-use Rattle.std.proofs.lemmas.List.{length-map, get_or_default, take-append-le, take_all, length-take-le, get_or_past}
+use Rattle.std.proofs.lemmas.List.{length-map, get_or_default, length-take-le, get_or_past}
 use Rattle.std.proofs.lemmas.Bool.{cases_lt, cases_eq}
 use Rattle.asp_clauses.specs.declared.trail.Step.{Step}
 use Rattle.asp_clauses.specs.declared.trail.Mark.{Mark}
 use Rattle.asp_clauses.specs.declared.watches.Watches.{Watches}
 use Rattle.asp_clauses.specs.Literal.{negated}
-use Rattle.asp_clauses.specs.Records.{row_at, literals_of, end}
-use Rattle.asp_clauses.specs.Trail.{TrailState, IsPlaced, IsUnassigned, IsFalse, IsUnit, Implies, IsLawful, IsReasoned, literal_at, step_at, mark_at, clause_at, number}
-use Rattle.asp_clauses.specs.Tables.{AreMarks, IsMark}
-use Rattle.asp_clauses.specs.Moves.{placed, Lowers, lowered}
-use Rattle.asp_clauses.specs.Book.{BookState, SameClauses, origin, visit_at, first_watch, second_watch, IsGuarded, IsWatched, AllWatched, WatchesFit, Goes}
-use Rattle.asp_clauses.specs.Watches.{IsRecord, IsStore, book_of}
+use Rattle.asp_clauses.specs.Records.{row_at, literals_of}
+use Rattle.asp_clauses.specs.Trail.{TrailState, IsPlaced, IsUnassigned, IsFalse, Implies, IsLawful, literal_at, mark_at, clause_at}
+use Rattle.asp_clauses.specs.Moves.{Lowers}
+use Rattle.asp_clauses.specs.Book.{BookState, SameClauses, first_watch, second_watch, IsGuarded, IsWatched, AllWatched, Goes}
+use Rattle.asp_clauses.specs.Watches.{IsRecord, book_of}
 use Rattle.asp_clauses.specs.Visits.{WatchesOneMore}
-use Rattle.asp_clauses.specs.Choices.{Orders, MadeTrue, IsFalseBy, IsLastFrom}
-use Rattle.asp_clauses.proofs.LiteralLemmas.{negated-negated}
-use Rattle.asp_clauses.proofs.FewLemmas.{unassigned_few, not_both}
+use Rattle.asp_clauses.specs.Choices.{MadeTrue, IsLastFrom}
+use Rattle.asp_clauses.proofs.FewLemmas.{unassigned_few}
 use Rattle.asp_clauses.proofs.StepsLemmas.{IsPlaced-from_take}
 use Rattle.asp_clauses.proofs.StoreLemmas.{clause_at-book}
 use Rattle.asp_clauses.proofs.MarkLemmas.{AreMarks-lowered}
 use Rattle.asp_clauses.proofs.WatchLemmas.{length_literals, literal_in_row, cell_in_range}
 use Rattle.asp_clauses.proofs.ChoiceLemmas.{visited_placed, placed_visited}
-use Rattle.asp_clauses.proofs.GoesLemmas.{Goes-implied, visit_at-take, AllWatched-fewer}
+use Rattle.asp_clauses.proofs.GoesLemmas.{Goes-implied, AllWatched-fewer}
 
 -- ---- the same clauses
 pub SameClauses-refl : (clauses : List (List ℕ)) → SameClauses clauses clauses

@@ -1,9 +1,8 @@
 -- Rows in one list of words.
-use Rattle.std.proofs.Common.{◌≡◌, ◌≢◌, ℕ, zero, suc, ◌+◌, ◌-◌, ◌^◌, ◌<◌, ◌≤◌, ◌⊎◌, List, [], ◌∷◌, ◌++◌, length, get_or, take, drop, set, map, refl, sym, ◌∙◌, ap, arith, inl, inr, subst, length-append, length-drop, length-set}
-use Rattle.std.specs.List.{range_with_len, swap}
-use Rattle.std.proofs.lemmas.List.{length-take-le, get_or-take, get_or-drop, drop-set-add, drop-set-lt, take-set-le, same_lists, get_or-set_same, get_or-set_other, take-append-le, drop-append-le, get_or_append_left, get_or_push, length_push, take_all, take-take, drop-take, drop-drop, drop_at, get_or_past, get_or-append_right, get_or_read, get_or_default, set-set}
-use Rattle.std.proofs.lemmas.List.FromFn.{length-map-range_with_len, get_or-map-range_with_len, fill_by_all}
-use Rattle.std.proofs.lemmas.Grind.{common_steps}
+use Rattle.std.proofs.Common.{◌≡◌, ◌≢◌, ℕ, zero, suc, ◌+◌, ◌-◌, ◌^◌, ◌<◌, ◌≤◌, List, [], ◌∷◌, ◌++◌, length, get_or, take, drop, set, refl, sym, ◌∙◌, ap, arith, inl, inr, subst, length-drop, length-set}
+use Rattle.std.specs.List.{swap}
+use Rattle.std.proofs.lemmas.List.{length-take-le, get_or-take, get_or-drop, drop-set-add, drop-set-lt, take-set-le, same_lists, get_or-set_same, get_or-set_other, take-append-le, drop-append-le, get_or_append_left, get_or_push, length_push, take_all, take-take, drop-take, drop-drop, drop_at, get_or_read, get_or_default, set-set}
+use Rattle.std.proofs.lemmas.List.FromFn.{length-map-range_with_len, get_or-map-range_with_len}
 use Rattle.std.proofs.lemmas.Bool.{cases_lt, cases_eq}
 use Rattle.asp_clauses.specs.Rows.{rows_of, row_of, AreRows}
 

@@ -1,20 +1,17 @@
 -- Propagation as a whole, and what it has reached in the end.
-use Rattle.std.proofs.Common.{◌≡◌, ◌≢◌, ℕ, zero, suc, ◌+◌, ◌-◌, ◌*◌, ◌/◌, ◌^◌, ◌<◌, ◌≤◌, ◌⊎◌, Bool, true, false, List, [], ◌∷◌, ◌++◌, length, get_or, set, take, map, refl, sym, ◌∙◌, ap, arith, inl, inr, subst}
+use Rattle.std.proofs.Common.{◌≡◌, ℕ, ◌+◌, ◌*◌, ◌/◌, ◌<◌, ◌≤◌, List, length, get_or, map, refl, sym, ◌∙◌, ap, arith, inl, inr, subst}
 use Rattle.std.specs.List.{Contains}
 use Rattle.std.proofs.lemmas.List.{length-map}
 use Rattle.std.proofs.lemmas.Bool.{cases_lt, cases_eq}
-use Rattle.asp_clauses.specs.declared.trail.Step.{Step}
 use Rattle.asp_clauses.specs.declared.watches.Watches.{Watches}
 use Rattle.asp_clauses.specs.Literal.{negated}
 use Rattle.asp_clauses.specs.Records.{row_at, literals_of}
-use Rattle.asp_clauses.specs.Trail.{TrailState, IsPlaced, IsUnassigned, IsFalse, IsUnit, Implies, literal_at, clause_at}
-use Rattle.asp_clauses.specs.Tables.{AreMarks}
+use Rattle.asp_clauses.specs.Trail.{TrailState, IsPlaced, IsFalse, Implies}
 use Rattle.asp_clauses.specs.Moves.{NextVisit}
-use Rattle.asp_clauses.specs.Book.{BookState, SameClauses, visit_at, IsGuarded, IsWatched, AllWatched, Goes}
-use Rattle.asp_clauses.specs.Watches.{IsRecord, IsStore, AreWatches, book_of}
+use Rattle.asp_clauses.specs.Book.{BookState, visit_at, IsWatched, AllWatched, Goes}
+use Rattle.asp_clauses.specs.Watches.{AreWatches, book_of}
 use Rattle.asp_clauses.specs.Visits.{Extends, Propagates}
 use Rattle.asp_clauses.specs.Choices.{IsVisit, IsFixpoint}
-use Rattle.asp_clauses.proofs.LiteralLemmas.{negated-half, negated-≢}
 use Rattle.asp_clauses.proofs.FewLemmas.{not_both, not_placed}
 use Rattle.asp_clauses.proofs.StoreLemmas.{clause_at-book}
 use Rattle.asp_clauses.proofs.WatchLemmas.{length_literals, literal_in_row, cell_in_range, watches_differ}

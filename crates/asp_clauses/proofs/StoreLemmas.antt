@@ -1,11 +1,11 @@
 -- Records of clauses, and what is known of each.
-use Rattle.std.proofs.Common.{◌≡◌, ◌≢◌, ℕ, zero, suc, ◌+◌, ◌-◌, ◌*◌, ◌/◌, ◌^◌, ◌<◌, ◌≤◌, ◌⊎◌, Bool, true, false, cond, eqb, List, [], ◌∷◌, ◌++◌, length, get_or, set, take, drop, map, min, max, refl, sym, ◌∙◌, ap, arith, inl, inr, subst, length-append, length-drop, replicate, lit<}
-use Rattle.std.proofs.lemmas.Bool.{cases_lt, cases_eq}
-use Rattle.std.proofs.lemmas.List.{length_push, get_or_append_left, get_or_push, take_at, map_push, get_or-map, get_or-take, get_or-drop, length-take-le, length-map, get_or-replicate, length-replicate}
+use Rattle.std.proofs.Common.{◌≡◌, ℕ, ◌+◌, ◌*◌, ◌^◌, ◌<◌, ◌≤◌, ◌⊎◌, List, [], ◌∷◌, ◌++◌, length, get_or, drop, map, min, max, refl, sym, ◌∙◌, ap, arith, inl, inr, subst, length-append, length-drop, replicate, lit<}
+use Rattle.std.proofs.lemmas.Bool.{cases_lt}
+use Rattle.std.proofs.lemmas.List.{length_push, get_or_append_left, get_or_push, take_at, get_or-map, length-map, get_or-replicate, length-replicate}
 use Rattle.asp_clauses.specs.declared.watches.Watches.{Watches}
 use Rattle.asp_clauses.specs.Records.{row_at, literals_of, record_of, end}
-use Rattle.asp_clauses.specs.Book.{IsClause, origin}
-use Rattle.asp_clauses.specs.Watches.{IsRecord, side_of, link_of, Watching, WatchingBelow, AreThreads, ListsOf, IsStore, IsListed, AreWatches, book_of}
+use Rattle.asp_clauses.specs.Book.{IsClause}
+use Rattle.asp_clauses.specs.Watches.{IsRecord, side_of, link_of, Watching, WatchingBelow, AreThreads, ListsOf, AreWatches}
 
 -- a new record is one of its clause
 pub literals_of-record_of : (code : ℕ) (literals : List ℕ) → literals_of (record_of code literals) ≡ literals

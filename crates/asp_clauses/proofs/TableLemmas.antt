@@ -1,13 +1,13 @@
 -- Tables and marks of a trail, where one more literal is placed.
-use Rattle.std.proofs.Common.{◌≡◌, ◌≢◌, ℕ, zero, suc, ◌+◌, ◌-◌, ◌*◌, ◌/◌, ◌<◌, ◌≤◌, ◌⊎◌, Bool, true, false, cond, List, [], ◌∷◌, ◌++◌, length, get_or, set, take, refl, sym, ◌∙◌, ap, arith, inl, inr, subst, Option, Some, None, is_none, length-set, add-one, not, lit≤}
-use Rattle.std.proofs.lemmas.List.{length_push, get_or_append_left, get_or_push, take-append-le, take_all, get_or-take, length-take-le, take-take, get_or-set_same, get_or-set_other, get_or_read, take_more_set, take-set-le, set_past, get_or_past}
+use Rattle.std.proofs.Common.{◌≡◌, ◌≢◌, ℕ, zero, suc, ◌+◌, ◌-◌, ◌*◌, ◌/◌, ◌<◌, ◌≤◌, ◌⊎◌, Bool, true, false, cond, List, [], ◌∷◌, ◌++◌, length, get_or, set, take, refl, sym, ◌∙◌, ap, arith, inl, inr, subst, Option, Some, None, length-set, add-one, not, lit≤}
+use Rattle.std.proofs.lemmas.List.{length_push, get_or_append_left, get_or_push, take-append-le, take_all, get_or-set_same, get_or-set_other, get_or_read, take_more_set, take-set-le, set_past, get_or_past}
 use Rattle.std.proofs.lemmas.Bool.{cases_lt, cases_Bool, cases_eq}
 use Rattle.std.specs.Int.{from_bool}
 use Rattle.asp_clauses.specs.declared.trail.Step.{Step}
 use Rattle.asp_clauses.specs.declared.trail.Mark.{Mark}
 use Rattle.asp_clauses.specs.Literal.{negated}
-use Rattle.asp_clauses.specs.Trail.{no_step, step_at, literal_at, no_mark, mark_at, is_decision, decisions, level_at, IsPlaced, IsUnassigned, IsValue}
-use Rattle.asp_clauses.specs.Tables.{AreTables, IsMark, AreMarks}
+use Rattle.asp_clauses.specs.Trail.{step_at, literal_at, no_mark, mark_at, is_decision, decisions, IsPlaced, IsUnassigned}
+use Rattle.asp_clauses.specs.Tables.{Tells, AreTables, IsMark, AreMarks}
 use Rattle.asp_clauses.specs.Book.{visit_at}
 use Rattle.asp_clauses.specs.Moves.{IsCleared, IsOutside}
 use Rattle.asp_clauses.proofs.LiteralLemmas.{negated-half, same_half, negated-negated, negated-≢, negated-lt}
@@ -31,7 +31,7 @@ assigned_others truths literal code h =
     let two : code ≢ literal = λ e. h (ap (λ (x : ℕ). x / 2) e) in
     get_or-set_other (set truths literal (Some true)) (negated literal) code (Some false) None one ∙ get_or-set_other truths literal code (Some true) None two
 
-value_pushed : (steps : List Step) (step : Step) (truths : List (Option Bool)) → step.literal < length truths → negated step.literal < length truths → (code : ℕ) → IsValue steps code (get_or truths code None) → IsValue (steps ++ step ∷ []) code (get_or (assigned truths step.literal) code None)
+value_pushed : (steps : List Step) (step : Step) (truths : List (Option Bool)) → step.literal < length truths → negated step.literal < length truths → (code : ℕ) → Tells steps code (get_or truths code None) → Tells (steps ++ step ∷ []) code (get_or (assigned truths step.literal) code None)
 value_pushed steps step truths h g code v = elim (cases_eq (code / 2) (step.literal / 2)) [
   | inl same ↦ elim (same_half code step.literal same) [
     | inl is ↦
@@ -161,9 +161,9 @@ AreMarks-decided steps marks head step m d =
     }
 
 -- a read of a value
-pub value_read : (atoms : ℕ) (steps now : List Step) (truths : List (Option Bool)) (places depths : List ℕ) (code : ℕ) (r : Option Bool) → AreTables atoms steps truths places depths → steps ≡ now → length truths ≡ 2 * atoms + 1 → code < 2 * atoms → r ≡ get_or truths code r → IsValue now code r
+pub value_read : (atoms : ℕ) (steps now : List Step) (truths : List (Option Bool)) (places depths : List ℕ) (code : ℕ) (r : Option Bool) → AreTables atoms steps truths places depths → steps ≡ now → length truths ≡ 2 * atoms + 1 → code < 2 * atoms → r ≡ get_or truths code r → Tells now code r
 value_read atoms steps now truths places depths code r t e l h read =
-    subst (λ (x : List Step). IsValue x code r) e (subst (IsValue steps code) (sym (get_or_read truths code r (omega arith) read None)) (t.values code h))
+    subst (λ (x : List Step). Tells x code r) e (subst (Tells steps code) (sym (get_or_read truths code r (omega arith) read None)) (t.values code h))
 
 -- a read of a position
 pub position_read : (atoms : ℕ) (steps : List Step) (truths : List (Option Bool)) (places depths : List ℕ) (code r : ℕ) → AreTables atoms steps truths places depths → length places ≡ atoms + 1 → code ≤ 2 * atoms → (code < 2 * atoms → IsPlaced steps (negated code)) → r ≡ get_or places (code / 2) r → (r ≤ length steps) × (visit_at atoms steps r ≡ code)
@@ -292,7 +292,7 @@ true_read atoms steps now truths places depths code r t e l h read is = elim (ca
 pub open_read : (atoms : ℕ) (steps now : List Step) (truths : List (Option Bool)) (places depths : List ℕ) (code : ℕ) (r : Option Bool) → AreTables atoms steps truths places depths → steps ≡ now → length truths ≡ 2 * atoms + 1 → code < 2 * atoms → r ≡ get_or truths code r → (r ≡ Some true → ⊥) → IsUnassigned now code ⊎ IsPlaced now (negated code)
 open_read atoms steps now truths places depths code r t e l h read no_true = go r (value_read atoms steps now truths places depths code r t e l h read) no_true
   where
-    go : (r : Option Bool) → IsValue now code r → (r ≡ Some true → ⊥) → IsUnassigned now code ⊎ IsPlaced now (negated code)
+    go : (r : Option Bool) → Tells now code r → (r ≡ Some true → ⊥) → IsUnassigned now code ⊎ IsPlaced now (negated code)
     go None v n = inl (v.unassigned refl)
     go (Some true) v n = absurd (n refl)
     go (Some false) v n = inr (v.fails refl)

@@ -1,15 +1,15 @@
 -- A watch that moves from one literal to another.
-use Rattle.std.proofs.Common.{◌≡◌, ◌≢◌, ℕ, zero, suc, ◌+◌, ◌-◌, ◌*◌, ◌/◌, ◌^◌, ◌<◌, ◌≤◌, ◌⊎◌, Bool, true, false, List, [], ◌∷◌, ◌++◌, length, get_or, set, map, refl, sym, ◌∙◌, ap, arith, inl, inr, subst, length-set}
-use Rattle.std.specs.List.{swap, remove}
+use Rattle.std.proofs.Common.{◌≡◌, ◌≢◌, ℕ, ◌+◌, ◌-◌, ◌*◌, ◌/◌, ◌^◌, ◌<◌, ◌≤◌, ◌⊎◌, List, length, get_or, set, sym, ◌∙◌, ap, arith, inl, inr, subst, length-set}
+use Rattle.std.specs.List.{swap}
 use Rattle.std.proofs.lemmas.Bool.{cases_lt, cases_eq}
 use Rattle.std.proofs.lemmas.List.{get_or-set_same, get_or-set_other}
 use Rattle.asp_clauses.specs.declared.watches.Watches.{Watches}
 use Rattle.asp_clauses.specs.Records.{row_at, literals_of, end}
-use Rattle.asp_clauses.specs.Watches.{IsRecord, side_of, link_of, Watching, WatchingBelow, AreThreads, ListsOf, IsStore, IsListed}
-use Rattle.asp_clauses.specs.Visits.{consed, removed, moved, IsAt, Links, Unlinks, MovesWatch, other_watch}
-use Rattle.asp_clauses.proofs.ListLemmas.{Threaded, Threaded-remove, ListsOf-cons, ListsOf-remove, removed_other}
-use Rattle.asp_clauses.proofs.WatchLemmas.{length-swap, swap_first, swap_second, swap_other, row_size, length_literals, literal_in_row, cell_in_range, watch_code, watches_differ, side_first, side_second, side_cases, side-lt, at_side, sides_differ, side_of-same, literals_of-link, link_cell, IsRecord-link, literals_of-swap, IsRecord-swap, row_set_same, row_set_other}
-use Rattle.asp_clauses.proofs.MoveLemmas.{IsStore-row, IsStore-linked, AreThreads-linked, ListsOf-iff, link_size, length_linked}
+use Rattle.asp_clauses.specs.Watches.{IsRecord, side_of, link_of, Watching, WatchingBelow, AreThreads, IsStore, IsListed}
+use Rattle.asp_clauses.specs.Visits.{removed, IsAt, Links, Unlinks}
+use Rattle.asp_clauses.proofs.ListLemmas.{Threaded, Threaded-remove}
+use Rattle.asp_clauses.proofs.WatchLemmas.{swap_first, swap_other, row_size, length_literals, literal_in_row, watches_differ, side_first, side_second, side_cases, side-lt, at_side, sides_differ, side_of-same, literals_of-link, link_cell, IsRecord-link, IsRecord-swap, row_set_same, row_set_other}
+use Rattle.asp_clauses.proofs.MoveLemmas.{IsStore-row, IsStore-linked, link_size}
 
 -- the row before the one that was taken out, and all others
 unlinked_row : (old new : Watches) (previous clause literal : ℕ) → Unlinks old new previous clause literal → previous ≢ end → previous < length old.records →

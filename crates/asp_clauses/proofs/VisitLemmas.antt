@@ -1,6 +1,5 @@
 -- A visit of the clauses that watch a literal which became false.
-use Rattle.std.proofs.Common.{◌≡◌, ◌≢◌, ℕ, zero, suc, ◌+◌, ◌-◌, ◌*◌, ◌/◌, ◌^◌, ◌<◌, ◌≤◌, ◌⊎◌, Bool, true, false, List, [], ◌∷◌, ◌++◌, length, get_or, set, take, map, refl, sym, ◌∙◌, ap, arith, inl, inr, subst}
-use Rattle.std.specs.List.{swap}
+use Rattle.std.proofs.Common.{◌≡◌, ◌≢◌, ℕ, ◌+◌, ◌-◌, ◌*◌, ◌<◌, ◌≤◌, List, length, get_or, take, map, sym, ◌∙◌, ap, arith, inl, inr, subst}
 use Rattle.std.specs.List.Sorted.{IsPermutation}
 use Rattle.std.proofs.lemmas.List.{length-map, get_or_append_left, length-append}
 use Rattle.std.proofs.lemmas.List.Sorted.{IsPermutation-refl, IsPermutation-swap}
@@ -8,13 +7,12 @@ use Rattle.std.proofs.lemmas.Bool.{cases_lt, cases_eq}
 use Rattle.asp_clauses.specs.declared.trail.Step.{Step}
 use Rattle.asp_clauses.specs.declared.watches.Watches.{Watches}
 use Rattle.asp_clauses.specs.Literal.{negated}
-use Rattle.asp_clauses.specs.Records.{row_at, literals_of, end}
-use Rattle.asp_clauses.specs.Trail.{TrailState, IsPlaced, IsUnassigned, IsFalse, Implies, IsLawful, literal_at, step_at, no_step, mark_at, clause_at}
-use Rattle.asp_clauses.specs.Book.{BookState, SameClauses, visit_at, first_watch, second_watch, IsGuarded, IsWatched, AllWatched, Goes}
-use Rattle.asp_clauses.specs.Watches.{IsRecord, IsStore, side_of, WatchingBelow, Watching, book_of}
+use Rattle.asp_clauses.specs.Records.{row_at, literals_of}
+use Rattle.asp_clauses.specs.Trail.{TrailState, IsPlaced, IsUnassigned, IsFalse, Implies, no_step, mark_at, clause_at}
+use Rattle.asp_clauses.specs.Book.{BookState, SameClauses, first_watch, second_watch, IsGuarded, IsWatched, AllWatched, Goes}
+use Rattle.asp_clauses.specs.Watches.{IsRecord, IsStore, side_of, WatchingBelow, book_of}
 use Rattle.asp_clauses.specs.Visits.{MovesWatch, other_watch, Extends, IsStopped, IsConflict}
-use Rattle.asp_clauses.specs.Choices.{IsVisit, IsNotFalse, RestIsFalse}
-use Rattle.asp_clauses.proofs.LiteralLemmas.{negated-negated}
+use Rattle.asp_clauses.specs.Choices.{IsVisit, RestIsFalse}
 use Rattle.asp_clauses.proofs.FewLemmas.{not_both}
 use Rattle.asp_clauses.proofs.StepsLemmas.{IsPlaced-from_take}
 use Rattle.asp_clauses.proofs.StoreLemmas.{clause_at-book}

@@ -1,17 +1,17 @@
 -- The walk along a list of watching clauses.
-use Rattle.std.proofs.Common.{◌≡◌, ◌≢◌, ℕ, zero, suc, ◌+◌, ◌-◌, ◌*◌, ◌/◌, ◌^◌, ◌<◌, ◌≤◌, ◌⊎◌, Bool, true, false, List, [], ◌∷◌, ◌++◌, length, get_or, set, take, map, refl, sym, ◌∙◌, ap, arith, inl, inr, subst}
+use Rattle.std.proofs.Common.{◌≡◌, ◌≢◌, ℕ, zero, suc, ◌+◌, ◌-◌, ◌*◌, ◌<◌, ◌≤◌, ◌⊎◌, List, ◌++◌, length, get_or, map, refl, sym, ◌∙◌, ap, arith, inl, inr, subst}
 use Rattle.std.specs.List.{remove}
-use Rattle.std.proofs.lemmas.List.{length-map, get_or_append_left, length-append, get_or_past, get_or_default}
+use Rattle.std.proofs.lemmas.List.{get_or_append_left, length-append, get_or_past, get_or_default}
 use Rattle.std.proofs.lemmas.List.Edits.{get_or-remove_below, get_or-remove_above, length-remove}
 use Rattle.std.proofs.lemmas.Bool.{cases_lt, cases_eq}
 use Rattle.asp_clauses.specs.declared.trail.Step.{Step}
 use Rattle.asp_clauses.specs.declared.watches.Watches.{Watches}
 use Rattle.asp_clauses.specs.Literal.{negated}
 use Rattle.asp_clauses.specs.Records.{row_at, literals_of, end}
-use Rattle.asp_clauses.specs.Trail.{TrailState, IsPlaced, literal_at, no_step, clause_at}
-use Rattle.asp_clauses.specs.Book.{BookState, SameClauses, visit_at, IsGuarded, IsWatched, AllWatched, Goes}
-use Rattle.asp_clauses.specs.Watches.{IsRecord, IsStore, IsListed, AreWatches, ListsOf, side_of, link_of, WatchingBelow, Watching, book_of}
-use Rattle.asp_clauses.specs.Visits.{MovesWatch, other_watch, moved, consed, removed, IsAt, Extends, Propagates}
+use Rattle.asp_clauses.specs.Trail.{TrailState, IsPlaced, no_step}
+use Rattle.asp_clauses.specs.Book.{visit_at, IsGuarded, IsWatched, AllWatched, Goes}
+use Rattle.asp_clauses.specs.Watches.{IsStore, IsListed, AreWatches, link_of, WatchingBelow, Watching, book_of}
+use Rattle.asp_clauses.specs.Visits.{other_watch, moved, removed, IsAt, Extends, Propagates}
 use Rattle.asp_clauses.specs.Choices.{IsVisit, StaysWatched, MovesOn}
 use Rattle.asp_clauses.proofs.FewLemmas.{distinct_few}
 use Rattle.asp_clauses.proofs.ListLemmas.{consed_other, removed_same}

@@ -1,12 +1,12 @@
 -- Rows of clauses whose links or literals change.
-use Rattle.std.proofs.Common.{◌≡◌, ◌≢◌, ℕ, zero, suc, ◌+◌, ◌-◌, ◌*◌, ◌/◌, ◌^◌, ◌<◌, ◌≤◌, ◌⊎◌, Bool, true, false, cond, eqb, List, [], ◌∷◌, ◌++◌, length, get_or, set, take, drop, map, min, max, refl, sym, ◌∙◌, ap, arith, inl, inr, subst, length-set, length-drop}
+use Rattle.std.proofs.Common.{◌≡◌, ◌≢◌, ℕ, ◌+◌, ◌*◌, ◌/◌, ◌<◌, ◌≤◌, ◌⊎◌, cond, eqb, List, [], length, get_or, set, take, drop, max, sym, ◌∙◌, ap, arith, inl, inr, subst, length-set, length-drop}
 use Rattle.std.specs.List.{swap}
 use Rattle.std.proofs.lemmas.Bool.{cases_lt, cases_eq}
 use Rattle.std.proofs.lemmas.Bool.Decides.{nat_tests}
-use Rattle.std.proofs.lemmas.List.{get_or-set_same, get_or-set_other, get_or-take, get_or-drop, length-take-le, drop-set-lt, drop-set-add, same_lists, get_or_default}
-use Rattle.asp_clauses.specs.Records.{row_at, literals_of, end}
-use Rattle.asp_clauses.specs.Book.{IsClause, origin}
-use Rattle.asp_clauses.specs.Watches.{IsRecord, side_of, link_of, Watching}
+use Rattle.std.proofs.lemmas.List.{get_or-set_same, get_or-set_other, get_or-take, get_or-drop, length-take-le, drop-set-lt, same_lists, get_or_default}
+use Rattle.asp_clauses.specs.Records.{row_at, literals_of}
+use Rattle.asp_clauses.specs.Book.{IsClause}
+use Rattle.asp_clauses.specs.Watches.{IsRecord, side_of}
 use Rattle.asp_clauses.proofs.RowsLemmas.{swap_sets}
 
 -- ---- an exchange, place by place

@@ -1,12 +1,10 @@
 -- What a book of clauses is, and when a book and a trail go together.
-use Rattle.std.specs.Prelude.{◌≡◌, ◌≢◌, ℕ, zero, suc, ◌+◌, ◌*◌, ◌/◌, ◌^◌, ◌<◌, ◌≤◌, List, [], ◌∷◌, length, take, slice_index_or}
-use Rattle.std.specs.List.{Contains}
+use Rattle.std.specs.Prelude.{◌≡◌, ◌≢◌, ℕ, zero, suc, ◌*◌, ◌/◌, ◌^◌, ◌<◌, ◌≤◌, List, length, take, slice_index_or}
 use Rattle.std.specs.List.Sorted.{IsPermutation}
 use Rattle.asp_clauses.specs.declared.trail.Step.{Step}
-use Rattle.asp_clauses.specs.declared.trail.Mark.{Mark}
 use Rattle.asp_clauses.specs.Literal.{negated}
 use Rattle.asp_clauses.specs.Tables.{AreMarks}
-use Rattle.asp_clauses.specs.Trail.{TrailState, IsPlaced, IsLawful, IsFalse, literal_at, mark_at, clause_at, number}
+use Rattle.asp_clauses.specs.Trail.{TrailState, IsPlaced, IsLawful, literal_at, mark_at, clause_at, number}
 
 -- what contracts see of a book; `watched` says how many clauses propagation has looked at
 pub record BookState : Type 0 where

@@ -1,14 +1,14 @@
 -- What propagation finds of a clause, and what it has reached in the end.
-use Rattle.std.specs.Prelude.{◌≡◌, ◌≢◌, ℕ, ◌+◌, ◌-◌, ◌*◌, ◌<◌, ◌≤◌, ◌⊎◌, Some, List, [], ◌∷◌, length, slice_index, slice_index_or, slice_set, swap}
+use Rattle.std.specs.Prelude.{◌≡◌, ◌≢◌, ℕ, ◌+◌, ◌*◌, ◌<◌, ◌≤◌, ◌⊎◌, Some, List, length, slice_index, slice_set, swap}
 use Rattle.asp_clauses.specs.declared.trail.Step.{Step}
 use Rattle.asp_clauses.specs.declared.watches.Watches.{Watches}
 use Rattle.asp_clauses.specs.Literal.{negated}
-use Rattle.asp_clauses.specs.Records.{row_at, literals_of, end}
+use Rattle.asp_clauses.specs.Records.{row_at, literals_of}
 use Rattle.asp_clauses.specs.Trail.{TrailState, IsPlaced, IsUnassigned, IsFalse, IsUnit, clause_at}
 use Rattle.asp_clauses.specs.Moves.{placed}
 use Rattle.std.specs.List.Sorted.{IsPermutation}
 use Rattle.asp_clauses.specs.Book.{BookState, visit_at}
-use Rattle.asp_clauses.specs.Watches.{IsStore, IsListed, book_of}
+use Rattle.asp_clauses.specs.Watches.{IsStore, IsListed}
 use Rattle.asp_clauses.specs.Visits.{IsAt, MovesWatch, moved, other_watch}
 
 -- no clause is false, and none is unit

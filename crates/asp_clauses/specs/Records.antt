@@ -1,5 +1,5 @@
 -- What a record of a clause holds: the number of literals, two links, and the literals.
-use Rattle.std.specs.Prelude.{◌≡◌, ℕ, ◌+◌, ◌-◌, ◌<◌, ◌≤◌, List, [], ◌∷◌, ◌++◌, length, take, drop, min, slice_index, slice_index_or}
+use Rattle.std.specs.Prelude.{ℕ, List, [], ◌∷◌, ◌++◌, length, take, drop, min, slice_index, slice_index_or}
 
 abbrev pub row_at : List (List ℕ) → ℕ → List ℕ
 row_at rows row = slice_index_or rows row []

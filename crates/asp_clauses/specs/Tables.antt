@@ -2,12 +2,19 @@
 use Rattle.std.specs.Prelude.{◌≡◌, ℕ, ◌+◌, ◌*◌, ◌/◌, ◌<◌, ◌≤◌, Bool, List, length, take, Option, Some, None, slice_index, slice_index_or, true, false}
 use Rattle.asp_clauses.specs.declared.trail.Step.{Step}
 use Rattle.asp_clauses.specs.declared.trail.Mark.{Mark}
-use Rattle.asp_clauses.specs.Trail.{IsValue, literal_at, step_at, mark_at, level_at, decisions, is_decision}
+use Rattle.asp_clauses.specs.Literal.{negated}
+use Rattle.asp_clauses.specs.Trail.{IsPlaced, IsUnassigned, literal_at, step_at, mark_at, level_at, decisions, is_decision}
+
+-- what a table's value tells of a literal
+pub record Tells (steps : List Step) (literal : ℕ) (value : Option Bool) : Type 0 where
+  pub unassigned : value ≡ None → IsUnassigned steps literal
+  pub holds : value ≡ Some true → IsPlaced steps literal
+  pub fails : value ≡ Some false → IsPlaced steps (negated literal)
 
 -- values, positions and levels are those of the steps
 pub record AreTables (atoms : ℕ) (steps : List Step) (truths : List (Option Bool)) (places depths : List ℕ) : Type 0 where
   pub codes : (place : ℕ) → place < length steps → literal_at steps place < 2 * atoms
-  pub values : (code : ℕ) → code < 2 * atoms → IsValue steps code (slice_index_or truths code None)
+  pub values : (code : ℕ) → code < 2 * atoms → Tells steps code (slice_index_or truths code None)
   pub origin_value : slice_index_or truths (2 * atoms) None ≡ Some false
   pub positions : (place : ℕ) → place < length steps → slice_index places (literal_at steps place / 2) ≡ place + 1
   pub origin_position : slice_index places atoms ≡ 0

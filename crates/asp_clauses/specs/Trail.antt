@@ -1,5 +1,5 @@
 -- What a trail is: placed literals in order, each a decision or implied by a clause.
-use Rattle.std.specs.Prelude.{◌≡◌, ◌≢◌, ℕ, zero, suc, ◌+◌, ◌-◌, ◌*◌, ◌/◌, ◌^◌, ◌<◌, ◌≤◌, Bool, List, [], ◌∷◌, length, take, Option, Some, None, is_none, slice_index_or, if◌then◌else◌, true, false, IfSome}
+use Rattle.std.specs.Prelude.{◌≡◌, ◌≢◌, ◌↔◌, ℕ, zero, suc, ◌+◌, ◌-◌, ◌*◌, ◌/◌, ◌^◌, ◌<◌, Bool, List, [], ◌∷◌, length, take, Option, Some, None, is_none, slice_index_or, if◌then◌else◌, true, false}
 use Rattle.std.specs.List.{Contains, count_by}
 use Rattle.asp_clauses.specs.declared.trail.Step.{Step}
 use Rattle.asp_clauses.specs.declared.trail.Mark.{Mark}
@@ -52,11 +52,11 @@ IsUnassigned steps literal = (place : ℕ) → place < length steps → literal_
 abbrev pub StandsAt : List Step → ℕ → ℕ → Type 0
 StandsAt steps atom place = (place < length steps) × (literal_at steps place / 2 ≡ atom)
 
--- what a literal's value tells
+-- a literal's value: none exactly where its atom is unassigned, else whether the literal is true
 pub record IsValue (steps : List Step) (literal : ℕ) (value : Option Bool) : Type 0 where
-  pub unassigned : value ≡ None → IsUnassigned steps literal
-  pub holds : value ≡ Some true → IsPlaced steps literal
-  pub fails : value ≡ Some false → IsPlaced steps (negated literal)
+  pub unassigned : value ≡ None ↔ IsUnassigned steps literal
+  pub holds : value ≡ Some true ↔ IsPlaced steps literal
+  pub fails : value ≡ Some false ↔ IsPlaced steps (negated literal)
 
 -- all literals of the clause are false
 abbrev pub IsFalse : List Step → List ℕ → Type 0

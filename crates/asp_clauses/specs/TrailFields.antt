@@ -1,5 +1,5 @@
 -- What the fields of a trail say.
-use Rattle.std.specs.Prelude.{◌≡◌, ℕ, ◌+◌, ◌*◌, ◌≤◌, List, length, take}
+use Rattle.std.specs.Prelude.{◌≡◌, ◌+◌, ◌*◌, ◌≤◌, List, length, take}
 use Rattle.asp_clauses.specs.declared.trail.Step.{Step}
 use Rattle.asp_clauses.specs.declared.trail.Mark.{Mark}
 use Rattle.asp_clauses.specs.declared.trail.Trail.TheInside.{Inside}

@@ -1,11 +1,11 @@
 -- How the steps of propagation change watches and trail.
-use Rattle.std.specs.Prelude.{◌≡◌, ◌≢◌, ℕ, ◌+◌, ◌-◌, ◌*◌, ◌<◌, ◌≤◌, ◌⊎◌, ◌==◌, Bool, true, false, List, [], ◌∷◌, ◌++◌, length, Option, Some, None, slice_index, slice_index_or, slice_set, swap, if◌then◌else◌}
-use Rattle.std.specs.List.{Contains, remove}
+use Rattle.std.specs.Prelude.{◌≡◌, ◌≢◌, ℕ, ◌+◌, ◌-◌, ◌<◌, ◌==◌, false, List, ◌∷◌, ◌++◌, length, slice_index, slice_index_or, slice_set, swap, if◌then◌else◌}
+use Rattle.std.specs.List.{remove}
 use Rattle.asp_clauses.specs.declared.trail.Step.{Step}
 use Rattle.asp_clauses.specs.declared.watches.Watches.{Watches}
 use Rattle.asp_clauses.specs.Records.{row_at, literals_of, end}
-use Rattle.asp_clauses.specs.Trail.{TrailState, IsPlaced, IsFalse, IsUnit, is_decision, step_at, clause_at}
-use Rattle.asp_clauses.specs.Book.{BookState, SameClauses, Goes, IsGuarded, origin, visit_at}
+use Rattle.asp_clauses.specs.Trail.{TrailState, IsFalse, IsUnit, is_decision, step_at, clause_at}
+use Rattle.asp_clauses.specs.Book.{BookState, SameClauses, Goes}
 use Rattle.asp_clauses.specs.Watches.{AreWatches, side_of, link_of, book_of}
 
 -- the clause now leads the list of the literal that it watches on this side

@@ -1,6 +1,5 @@
 -- The lists of watching clauses, as heads and links that lie in the records.
-use Rattle.std.specs.Prelude.{◌≡◌, ◌≢◌, ℕ, ◌+◌, ◌-◌, ◌*◌, ◌^◌, ◌<◌, ◌≤◌, ◌⊎◌, ◌==◌, List, [], ◌∷◌, length, map, max, slice_index, slice_index_or, if◌then◌else◌}
-use Rattle.std.specs.List.{Contains, remove}
+use Rattle.std.specs.Prelude.{◌≡◌, ◌≢◌, ℕ, ◌+◌, ◌^◌, ◌<◌, ◌≤◌, ◌⊎◌, ◌==◌, List, length, map, max, slice_index, slice_index_or, if◌then◌else◌}
 use Rattle.asp_clauses.specs.declared.watches.Watches.{Watches}
 use Rattle.asp_clauses.specs.Records.{row_at, literals_of, end}
 use Rattle.asp_clauses.specs.Book.{BookState, IsClause, origin}

@@ -29,7 +29,7 @@ impl Model for Book {
 }
 
 impl Book {
-    /// A book without clauses, over the atoms below `atoms`.
+    /// A book without clauses, over the atoms below `atoms`. `NoMemory`: memory was refused.
     pub fn new(alloc: Global, atoms: u32) -> Result<Book, NoMemory>
         requires { atoms ≤ 262144 }
         ensures empty { IfOk result (λ book. book.clauses ≡ []) }
@@ -40,7 +40,8 @@ impl Book {
         })
     }
 
-    /// Appends the clause and answers its number.
+    /// Appends the clause and answers its number. `NoMemory`: memory was refused, or the clause's number or place or the
+    /// count of clauses doesn't fit 32 bits; the book is as it was.
     pub fn add(&mut self, alloc: Global, lits: &[u32]) -> Result<u32, NoMemory>
         requires { IsClause self.old.atoms lits.now }
         ensures number { IfOk result (λ number. number ≡ length self.old.clauses) }

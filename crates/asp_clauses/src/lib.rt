@@ -40,6 +40,3 @@ pub use trail::{Spent, Trail};
 
 /// Memory was refused, or a number that has to fit 32 bits is used up.
 pub type NoMemory = AllocError;
-
-/// The most atoms that a book or a trail is over.
-pub const MOST_ATOMS: u32 = 262_144;

@@ -14,7 +14,9 @@ use crate::records::{END, LITERALS};
 use crate::trail::{Spent, Trail};
 use crate::watches::Watches;
 
-/// Places implied literals until no clause is unit or one is false, and answers the false one.
+/// Places implied literals until no clause is unit or one is false, and answers the false one. Whatever it answers, the
+/// book keeps its clauses at their numbers, each up to the order of its literals, and the trail keeps what was placed.
+/// `Spent`: the count of placements equals the budget, and some clause is unit.
 pub fn propagate(book: &mut Book, trail: &mut Trail) -> Result<Option<u32>, Spent>
     requires goes { Goes book.old trail.old }
     ensures goes { Goes book.new trail.new }

@@ -37,6 +37,7 @@ impl Model for Records {
 }
 
 impl Records {
+    /// No records. `NoMemory`: memory was refused.
     pub fn new(alloc: Global) -> Result<Self, NoMemory>
         ensures { IfOk result (λ rows. rows ≡ []) }
     {
@@ -48,6 +49,7 @@ impl Records {
         })
     }
 
+    /// How many records there are.
     pub fn len(&self) -> u32
         ensures value { result ≡ length self.now }
         ensures numbers { result < 2 ^ 32 }
@@ -55,6 +57,7 @@ impl Records {
         (self.starts.len() - 1) as u32
     }
 
+    /// A word of a clause's record.
     pub fn cell(&self, clause: u32, index: usize) -> u32
         requires clause { clause < length self.now }
         requires index { index < length (row_at self.now clause) }
@@ -63,6 +66,7 @@ impl Records {
         self.words[self.starts[clause as usize] as usize + index]
     }
 
+    /// Changes a word of a clause's record.
     pub fn set_cell(&mut self, clause: u32, index: usize, value: u32)
         requires clause { clause < length self.old }
         requires index { index < length (row_at self.old clause) }
@@ -85,6 +89,7 @@ impl Records {
         self.set_cell(clause, j, first);
     }
 
+    /// The literals of a clause.
     pub fn literals(&self, clause: u32) -> &[u32]
         requires clause { clause < length self.now }
         requires size { LITERALS + slice_index (row_at self.now clause) 0 ≤ length (row_at self.now clause) }

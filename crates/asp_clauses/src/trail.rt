@@ -11,23 +11,29 @@ use crate::book::Book;
 use crate::literal::negation;
 use std::alloc::Global;
 use std::marker::Model;
+use thiserror::Error;
 
-/// A placed literal: a decision, or implied by the clause of this number.
+/// A placed literal.
 #[derive(Clone, Copy)]
 pub struct Step {
+    /// The literal's code.
     pub literal: u32,
+    /// The number of the clause that implies it; none where it is a decision.
     pub reason: Option<u32>,
 }
 
-/// Where a decision stands, and how far propagation had come when it was placed.
+/// What is kept of a decision.
 #[derive(Clone, Copy)]
 pub struct Mark {
+    /// The place of its literal.
     pub start: u32,
+    /// How many visits propagation had done when it was placed.
     pub head: u32,
 }
 
 /// As many literals were placed as the budget allows.
-#[derive(Debug, Clone, Copy, PartialEq, Eq)]
+#[derive(Debug, Clone, Copy, PartialEq, Eq, Error)]
+#[error("as many literals were placed as the budget allows")]
 pub struct Spent;
 
 /// The placed literals, each a decision or implied by a clause. A trail counts its placements, also
@@ -65,7 +71,7 @@ impl Model for Trail {
 }
 
 impl Trail {
-    /// An empty trail over the atoms below `atoms`, with all the memory that it will need.
+    /// An empty trail over the atoms below `atoms`, with all the memory that it will need. `NoMemory`: it was refused.
     pub fn new(alloc: Global, atoms: u32, budget: u64) -> Result<Trail, NoMemory>
         requires { atoms ≤ 262144 }
         ensures empty { IfOk result (λ trail. trail.steps ≡ []) }
@@ -97,7 +103,7 @@ impl Trail {
         })
     }
 
-    /// Places the literal as a decision.
+    /// Places the literal as a decision. `Spent`: the count equals the budget, and nothing was placed.
     pub fn decide(&mut self, lit: u32) -> Result<(), Spent>
         requires code { lit < 2 * self.old.atoms }
         requires unassigned { IsUnassigned self.old.steps lit }
@@ -106,7 +112,7 @@ impl Trail {
         ensures unchanged { OnErr result (self.new ≡ self.old) }
         ensures goes { (book : BookState) → Goes book self.old → Goes book self.new }
     {
-        if self.count == self.budget {
+        if self.is_spent() {
             return Err(Spent);
         }
         self.place(Step {
@@ -116,7 +122,8 @@ impl Trail {
         Ok(())
     }
 
-    /// Places the literal, which the clause of the book implies.
+    /// Places the literal, which the clause of the book implies. `Spent`: the count equals the budget, and nothing was
+    /// placed.
     pub fn imply(&mut self, book: &Book, lit: u32, clause: u32) -> Result<(), Spent>
         requires goes { Goes book.now self.old }
         requires code { lit < 2 * self.old.atoms }
@@ -130,7 +137,7 @@ impl Trail {
         ensures goes { Goes book.now self.new }
     {
         let _ = book;
-        if self.count == self.budget {
+        if self.is_spent() {
             return Err(Spent);
         }
         self.place(Step {
@@ -141,7 +148,7 @@ impl Trail {
     }
 
     /// Goes back to the first `level` decisions, and places the literal, which the clause of the book
-    /// then implies.
+    /// then implies. `Spent`: the count equals the budget, and the trail is as it was.
     pub fn jump(&mut self, book: &Book, level: u32, lit: u32, clause: u32) -> Result<(), Spent>
         requires goes { Goes book.now self.old }
         requires level { level < decisions self.old.steps }
@@ -156,7 +163,7 @@ impl Trail {
         ensures goes { Goes book.now self.new }
     {
         let _ = book;
-        if self.count == self.budget {
+        if self.is_spent() {
             return Err(Spent);
         }
         self.go_back(level);

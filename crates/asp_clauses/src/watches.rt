@@ -17,6 +17,7 @@ use std::alloc::Global;
 pub struct Watches {
     /// How many atoms the codes range over.
     pub atoms: u32,
+    /// The clauses.
     pub records: Records,
     /// The first clause that watches the literal, for each code and for the origin.
     pub heads: Vec<u32>,
@@ -25,6 +26,7 @@ pub struct Watches {
 }
 
 impl Watches {
+    /// No clauses, over the atoms below `atoms`.
     pub fn new(alloc: Global, atoms: u32) -> Result<Self, NoMemory>
         requires { atoms ≤ 262144 }
         ensures empty { IfOk result (λ watches. watches.records ≡ []) }

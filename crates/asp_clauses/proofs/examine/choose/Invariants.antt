@@ -1,4 +1,3 @@
-use Rattle.std.proofs.Common.{◌≤◌}
 use Rattle.asp_clauses.specs.Records.{row_at}
 use Rattle.asp_clauses.proofs.ChoiceLemmas.{IsBest}
 use Rattle.asp_clauses.proofs.examine.choose.Given as goal

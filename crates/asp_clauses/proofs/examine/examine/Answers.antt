@@ -1,15 +1,15 @@
-use Rattle.std.proofs.Common.{◌≡◌, ◌≢◌, ℕ, ◌+◌, ◌*◌, ◌<◌, ◌≤◌, get_or, map, length, refl, sym, ◌∙◌, ap, arith, subst, true, false}
+use Rattle.std.proofs.Common.{◌≡◌, ℕ, ◌*◌, ◌<◌, ◌≤◌, get_or, length, sym, ◌∙◌, arith, subst}
 use Rattle.std.proofs.lemmas.List.{length-map}
 use Rattle.asp_clauses.specs.Literal.{negated}
 use Rattle.asp_clauses.specs.Records.{row_at, literals_of}
-use Rattle.asp_clauses.specs.Trail.{TrailState, IsPlaced, IsUnassigned}
+use Rattle.asp_clauses.specs.Trail.{IsPlaced, IsUnassigned}
 use Rattle.asp_clauses.specs.Book.{Goes, visit_at}
 use Rattle.asp_clauses.specs.Watches.{book_of}
 use Rattle.asp_clauses.specs.Visits.{IsStopped, IsConflict}
 use Rattle.asp_clauses.specs.Choices.{MadeTrue}
 use Rattle.asp_clauses.proofs.WatchLemmas.{cell_in_range, watch_code}
-use Rattle.asp_clauses.proofs.ReorderLemmas.{Goes-made_true, SameClauses-refl}
-use Rattle.asp_clauses.proofs.ExamineLemmas.{Extends-refl, Extends-same, Extends-trans, Extends-made_true, Extends-lowered, stays_placed, made_true_atoms, Examined, ordered, conflict_of, implies_first, stopped_of, Goes-open, Examined-trail, Goes-true, Propagates-from, SameClauses-one_more}
+use Rattle.asp_clauses.proofs.ReorderLemmas.{Goes-made_true}
+use Rattle.asp_clauses.proofs.ExamineLemmas.{Extends-refl, Extends-same, Extends-trans, Extends-made_true, Extends-lowered, stays_placed, made_true_atoms, ordered, conflict_of, implies_first, stopped_of, Goes-open, Examined-trail, Goes-true, Propagates-from, SameClauses-one_more}
 use Rattle.asp_clauses.proofs.examine.examine.Goals as goal
 
 pub returns-then-is_false-clause-propagates : goal.returns-then-is_false-clause-propagates

@@ -1,4 +1,4 @@
-use Rattle.std.proofs.Common.{◌≡◌, List, length, refl, sym, ap, subst, inl, inr, Some}
+use Rattle.std.proofs.Common.{List, sym, ap, subst, inl, inr, Some}
 use Rattle.asp_clauses.specs.declared.trail.Step.{Step}
 use Rattle.asp_clauses.specs.Trail.{TrailState, IsPlaced}
 use Rattle.asp_clauses.proofs.StepsLemmas.{IsPlaced-last}

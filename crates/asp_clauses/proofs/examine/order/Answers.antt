@@ -1,5 +1,4 @@
-use Rattle.std.proofs.Common.{◌≡◌, ℕ, ◌+◌, ◌<◌, ◌≤◌, get_or, sym, ◌∙◌, ap, subst, refl, arith}
-use Rattle.asp_clauses.specs.Records.{row_at}
+use Rattle.std.proofs.Common.{sym, ◌∙◌, arith}
 use Rattle.asp_clauses.proofs.ChoiceLemmas.{exchanged, Orders-one, Orders-two}
 use Rattle.asp_clauses.proofs.examine.order.Goals as goal
 

@@ -1,7 +1,5 @@
-use Rattle.std.proofs.Common.{◌≡◌, ℕ, ◌+◌, ◌≤◌, length, refl, sym, ◌∙◌, ap, Ok}
-use Rattle.asp_clauses.specs.Trail.{TrailState}
+use Rattle.std.proofs.Common.{sym, ◌∙◌, ap, Ok}
 use Rattle.asp_clauses.specs.Watches.{book_of}
-use Rattle.asp_clauses.specs.Visits.{Propagates}
 use Rattle.asp_clauses.proofs.ExamineLemmas.{Extends-trans}
 use Rattle.asp_clauses.proofs.WalkLemmas.{IsVisit-extends}
 use Rattle.asp_clauses.proofs.RunLemmas.{Propagates-trans, IsVisit-next, Goes-advanced, Extends-advanced, as_many}

@@ -1,10 +1,9 @@
-use Rattle.std.proofs.Common.{◌≡◌, ℕ, ◌+◌, ◌*◌, ◌<◌, ◌≤◌, get_or, length, refl, sym, ◌∙◌, ap, subst, arith, inl, inr, Ok}
+use Rattle.std.proofs.Common.{◌≡◌, ℕ, ◌+◌, length, refl, sym, ◌∙◌, ap, subst, arith, inl, inr, Ok}
 use Rattle.std.proofs.lemmas.List.{get_or_read}
 use Rattle.asp_clauses.specs.declared.watches.Watches.{Watches}
-use Rattle.asp_clauses.specs.Trail.{TrailState}
 use Rattle.asp_clauses.specs.Book.{Goes}
 use Rattle.asp_clauses.specs.Watches.{book_of}
-use Rattle.asp_clauses.specs.Visits.{IsConflict, Extends}
+use Rattle.asp_clauses.specs.Visits.{IsConflict}
 use Rattle.asp_clauses.proofs.WalkLemmas.{IsVisiting, IsVisiting-start, IsVisiting-stays, IsVisiting-moves, at_clause, AllWatched-visited, Propagates-step}
 use Rattle.asp_clauses.proofs.propagation.visit.Goals as goal
 use Rattle.asp_clauses.proofs.propagation.visit.Goals.{in-Stays, in-Moved}

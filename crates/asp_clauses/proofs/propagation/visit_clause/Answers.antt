@@ -1,9 +1,8 @@
-use Rattle.std.proofs.Common.{◌≡◌, ◌≢◌, ℕ, ◌+◌, ◌*◌, ◌<◌, ◌≤◌, get_or, map, length, refl, sym, ◌∙◌, ap, subst, arith}
+use Rattle.std.proofs.Common.{◌≢◌, ℕ, ◌+◌, ◌*◌, ◌<◌, get_or, refl, sym, subst, arith}
 use Rattle.std.proofs.lemmas.List.{length-map}
 use Rattle.asp_clauses.specs.Literal.{negated}
 use Rattle.asp_clauses.specs.Records.{row_at, literals_of}
-use Rattle.asp_clauses.specs.Trail.{TrailState, IsPlaced, IsUnassigned}
-use Rattle.asp_clauses.specs.Book.{Goes}
+use Rattle.asp_clauses.specs.Trail.{IsPlaced, IsUnassigned}
 use Rattle.asp_clauses.specs.Watches.{book_of}
 use Rattle.asp_clauses.specs.Visits.{IsStopped, other_watch}
 use Rattle.asp_clauses.specs.Choices.{MadeTrue, RestIsFalse}

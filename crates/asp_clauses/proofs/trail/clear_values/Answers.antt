@@ -1,4 +1,4 @@
-use Rattle.std.proofs.Common.{◌≡◌, ◌+◌, ℕ, arith, ap, sym, ◌∙◌, subst, List, Option, Bool, set, length-set, None}
+use Rattle.std.proofs.Common.{◌+◌, ℕ, arith, sym, subst, set, length-set, None}
 use Rattle.asp_clauses.specs.Trail.{literal_at}
 use Rattle.asp_clauses.proofs.LiteralLemmas.{negated-le}
 use Rattle.asp_clauses.proofs.TableLemmas.{ClearedTo, ClearedTo-none, ClearedTo-more}

@@ -1,4 +1,4 @@
-use Rattle.std.proofs.Common.{◌≡◌, ◌-◌, arith, refl}
+use Rattle.std.proofs.Common.{◌-◌, arith, refl}
 use Rattle.asp_clauses.specs.Trail.{mark_at}
 use Rattle.asp_clauses.proofs.MarkLemmas.{LoweredFrom-none, LoweredFrom-more}
 use Rattle.asp_clauses.proofs.trail.lower_marks.Goals as goal

@@ -1,8 +1,7 @@
-use Rattle.std.proofs.Common.{◌≡◌, ℕ, ◌*◌, ◌<◌, ◌≤◌, List, [], ◌∷◌, ◌++◌, length, map, refl, sym, ap, subst, arith}
+use Rattle.std.proofs.Common.{◌≡◌, ℕ, ◌*◌, List, [], ◌∷◌, ◌++◌, refl, sym, ap, subst, arith}
 use Rattle.std.proofs.lemmas.List.{length-map}
 use Rattle.asp_clauses.specs.declared.watches.Watches.{Watches}
-use Rattle.asp_clauses.specs.Records.{record_of, literals_of, end}
-use Rattle.asp_clauses.specs.Trail.{clause_at}
+use Rattle.asp_clauses.specs.Records.{record_of, literals_of}
 use Rattle.asp_clauses.specs.Book.{BookState, IsClause, Goes}
 use Rattle.asp_clauses.specs.Watches.{AreWatches, book_of}
 use Rattle.asp_clauses.proofs.GoesLemmas.{Goes-added}

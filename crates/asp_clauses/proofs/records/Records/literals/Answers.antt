@@ -1,4 +1,4 @@
-use Rattle.std.proofs.Common.{◌≡◌, ℕ, ◌+◌, ◌-◌, ◌<◌, ◌≤◌, List, [], length, get_or, take, drop, sym, ◌∙◌, ap, arith, refl}
+use Rattle.std.proofs.Common.{◌≡◌, ℕ, ◌+◌, ◌-◌, List, [], get_or, take, drop, ◌∙◌, ap, arith}
 use Rattle.asp_clauses.proofs.RowsLemmas.{row_facts, word_within, first_read, part_read, start_read}
 use Rattle.asp_clauses.proofs.records.Records.literals.Goals as goal
 

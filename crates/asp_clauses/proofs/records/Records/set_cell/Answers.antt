@@ -1,4 +1,4 @@
-use Rattle.std.proofs.Common.{◌≡◌, arith}
+use Rattle.std.proofs.Common.{arith}
 use Rattle.asp_clauses.proofs.RowsLemmas.{row_facts, word_within, word_written}
 use Rattle.asp_clauses.proofs.records.Records.set_cell.Goals as goal
 

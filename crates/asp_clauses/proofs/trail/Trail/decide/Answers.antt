@@ -1,4 +1,4 @@
-use Rattle.std.proofs.Common.{arith, subst, sym}
+use Rattle.std.proofs.Common.{subst, sym}
 use Rattle.asp_clauses.specs.Book.{Goes}
 use Rattle.asp_clauses.specs.Trail.{TrailState}
 use Rattle.asp_clauses.proofs.FewLemmas.{unassigned_few}

@@ -1,4 +1,4 @@
-use Rattle.std.proofs.Common.{◌≡◌, ℕ, ◌+◌, ◌-◌, ◌*◌, ◌/◌, ◌<◌, ◌≤◌, List, [], length, take, get_or, sym, ◌∙◌, ap, arith, subst, refl, Option, Bool, None}
+use Rattle.std.proofs.Common.{◌≡◌, ℕ, ◌/◌, List, length, take, get_or, sym, ◌∙◌, ap, arith, subst, Option, Bool, None}
 use Rattle.std.proofs.lemmas.List.{take-take, with_items_is}
 use Rattle.std.specs.Vec.{with_items}
 use Rattle.asp_clauses.specs.declared.trail.Step.{Step}
@@ -7,7 +7,7 @@ use Rattle.asp_clauses.specs.Trail.{TrailState, literal_at, mark_at, back_to}
 use Rattle.asp_clauses.specs.TrailFields.{steps_of, marks_of, state_of}
 use Rattle.asp_clauses.specs.Tables.{AreTables, AreMarks}
 use Rattle.asp_clauses.specs.Moves.{gone_back, IsCleared}
-use Rattle.asp_clauses.proofs.FieldLemmas.{length_steps, length_marks, BackFacts, back_facts}
+use Rattle.asp_clauses.proofs.FieldLemmas.{back_facts}
 use Rattle.asp_clauses.proofs.BackLemmas.{TakenBack, AreTables-back, taken_back}
 use Rattle.asp_clauses.proofs.GoesLemmas.{AreMarks-back}
 use Rattle.asp_clauses.proofs.trail.Trail.go_back.Goals as goal

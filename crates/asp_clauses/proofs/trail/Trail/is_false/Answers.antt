@@ -1,7 +1,5 @@
-use Rattle.std.proofs.Common.{◌≡◌, ℕ, ◌<◌, ◌/◌, ◌*◌, Some, true, false, not, sym, ◌∙◌, ap, arith}
-use Rattle.std.specs.Prelude.{◌≢◌}
-use Rattle.asp_clauses.specs.Literal.{negated}
-use Rattle.asp_clauses.specs.Trail.{TrailState, IsPlaced, IsValue}
+use Rattle.std.proofs.Common.{Some, true, false, sym, ◌∙◌, ap, arith}
+use Rattle.asp_clauses.specs.Trail.{TrailState}
 use Rattle.asp_clauses.specs.TrailFields.{steps_of}
 use Rattle.asp_clauses.proofs.TableLemmas.{value_read, not_origin, not_back}
 use Rattle.asp_clauses.proofs.FewLemmas.{stands_read}

@@ -1,4 +1,4 @@
-use Rattle.std.proofs.Common.{◌≡◌, Some, true, false, not, sym, ◌∙◌, ap, arith}
+use Rattle.std.proofs.Common.{ap, arith}
 use Rattle.asp_clauses.specs.Trail.{TrailState}
 use Rattle.asp_clauses.specs.TrailFields.{steps_of}
 use Rattle.asp_clauses.proofs.TableLemmas.{true_read, open_read}

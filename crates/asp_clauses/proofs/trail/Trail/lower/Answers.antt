@@ -1,12 +1,11 @@
-use Rattle.std.proofs.Common.{◌≡◌, ℕ, ◌+◌, ◌-◌, ◌<◌, ◌≤◌, List, length, take, get_or, sym, ◌∙◌, ap, arith, subst, refl, min}
-use Rattle.std.proofs.lemmas.List.{with_items_is, length-take-le, get_or-take}
+use Rattle.std.proofs.Common.{◌≡◌, List, length, take, sym, ◌∙◌, ap, arith, subst, refl}
 use Rattle.std.specs.Vec.{with_items}
 use Rattle.asp_clauses.specs.declared.trail.Mark.{Mark}
-use Rattle.asp_clauses.specs.Trail.{TrailState, mark_at, no_mark}
+use Rattle.asp_clauses.specs.Trail.{TrailState, mark_at}
 use Rattle.asp_clauses.specs.TrailFields.{steps_of, marks_of, state_of}
 use Rattle.asp_clauses.specs.Tables.{AreMarks}
 use Rattle.asp_clauses.specs.Moves.{Lowers, lowered}
-use Rattle.asp_clauses.proofs.FieldLemmas.{LowerFacts, lower_facts}
+use Rattle.asp_clauses.proofs.FieldLemmas.{lower_facts}
 use Rattle.asp_clauses.proofs.MarkLemmas.{AreMarks-lowered}
 use Rattle.asp_clauses.proofs.trail.Trail.lower.Goals as goal
 

@@ -1,7 +1,5 @@
-use Rattle.std.proofs.Common.{◌≡◌, ◌≢◌, ℕ, ◌+◌, ◌*◌, ◌<◌, ◌∙◌, sym, ap, Option, Bool, replicate, set, length, refl, arith, rules, List, [], Some, None, true, false, length-set, get_or}
-use Rattle.std.proofs.lemmas.Grind.{common_steps}
+use Rattle.std.proofs.Common.{◌≡◌, ◌≢◌, ℕ, ◌+◌, ◌*◌, ◌∙◌, sym, ap, Option, Bool, replicate, set, refl, arith, rules, List, Some, None, false, length-set, get_or}
 use Rattle.std.proofs.lemmas.List.{get_or-set_same, get_or-set_other, get_or-replicate}
-use Rattle.asp_clauses.specs.Tables.{AreTables}
 use Rattle.asp_clauses.proofs.GoesLemmas.{Goes-empty, AreMarks-empty}
 use Rattle.asp_clauses.proofs.trail.Trail.new.Goals as goal
 

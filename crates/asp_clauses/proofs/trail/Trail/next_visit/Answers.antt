@@ -1,10 +1,9 @@
-use Rattle.std.proofs.Common.{◌≡◌, ℕ, ◌<◌, ◌≤◌, ◌-◌, ◌*◌, length, sym, ◌∙◌, ap, arith, subst}
+use Rattle.std.proofs.Common.{◌≡◌, ◌<◌, ◌≤◌, ◌-◌, ◌*◌, length, sym, ◌∙◌, arith, subst}
 use Rattle.std.proofs.lemmas.List.{get_or_read, get_or-take, length-take-le}
 use Rattle.asp_clauses.specs.declared.trail.Step.{Step}
 use Rattle.asp_clauses.specs.Literal.{negated}
-use Rattle.asp_clauses.specs.Trail.{TrailState, literal_at, no_step, step_at}
-use Rattle.asp_clauses.specs.TrailFields.{steps_of, state_of}
-use Rattle.asp_clauses.specs.Book.{visit_at}
+use Rattle.asp_clauses.specs.Trail.{TrailState, no_step, step_at}
+use Rattle.asp_clauses.specs.TrailFields.{steps_of}
 use Rattle.asp_clauses.specs.Moves.{NextVisit}
 use Rattle.asp_clauses.proofs.LiteralLemmas.{negated-lt}
 use Rattle.asp_clauses.proofs.TableLemmas.{next_read}

@@ -1,11 +1,10 @@
-use Rattle.std.proofs.Common.{◌≡◌, ◌≢◌, ℕ, ◌+◌, ◌-◌, ◌*◌, ◌/◌, ◌<◌, ◌≤◌, List, [], ◌∷◌, ◌++◌, length, take, set, sym, ◌∙◌, ap, arith, subst, length-set, cond, Bool, Option, refl, Some, None, true, false}
+use Rattle.std.proofs.Common.{◌≡◌, ℕ, ◌+◌, ◌/◌, List, [], ◌∷◌, ◌++◌, take, set, sym, ◌∙◌, ap, arith, subst, length-set, cond, Bool, Option, Some, true, false}
 use Rattle.std.specs.Int.{from_bool}
-use Rattle.std.specs.Option.{is_none, is_some}
+use Rattle.std.specs.Option.{is_some}
 use Rattle.asp_clauses.specs.declared.trail.Step.{Step}
 use Rattle.asp_clauses.specs.declared.trail.Mark.{Mark}
-use Rattle.asp_clauses.specs.Literal.{negated}
-use Rattle.asp_clauses.specs.Trail.{TrailState, IsUnassigned, is_decision}
-use Rattle.asp_clauses.specs.TrailFields.{steps_of, marks_of, state_of}
+use Rattle.asp_clauses.specs.Trail.{TrailState, is_decision}
+use Rattle.asp_clauses.specs.TrailFields.{steps_of, marks_of}
 use Rattle.asp_clauses.specs.Tables.{AreTables, AreMarks}
 use Rattle.asp_clauses.specs.Moves.{placed}
 use Rattle.asp_clauses.proofs.TableLemmas.{steps_after, marks_after, AreMarks-after, decisions_after, AreTables-push, assigned, mark_here, not_back, from_bool-le}

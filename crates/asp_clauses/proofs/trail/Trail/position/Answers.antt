@@ -1,9 +1,9 @@
-use Rattle.std.proofs.Common.{◌≡◌, ℕ, ◌≤◌, ◌*◌, length, sym, ap, arith, subst}
+use Rattle.std.proofs.Common.{◌≡◌, ℕ, ◌≤◌, length, sym, ap, arith, subst}
 use Rattle.std.proofs.Common.{List}
 use Rattle.asp_clauses.specs.declared.trail.Step.{Step}
 use Rattle.asp_clauses.specs.Literal.{negated}
 use Rattle.asp_clauses.specs.Trail.{TrailState, IsPlaced}
-use Rattle.asp_clauses.specs.TrailFields.{steps_of, state_of}
+use Rattle.asp_clauses.specs.TrailFields.{steps_of}
 use Rattle.asp_clauses.specs.Book.{visit_at}
 use Rattle.asp_clauses.proofs.TableLemmas.{position_read, position_only}
 use Rattle.asp_clauses.proofs.trail.Trail.position.Goals as goal

@@ -1,12 +1,11 @@
-use Rattle.std.proofs.Common.{◌≡◌, ℕ, ◌+◌, ◌-◌, ◌*◌, ◌/◌, ◌<◌, ◌≤◌, List, [], length, take, get_or, sym, ◌∙◌, ap, arith, subst, refl, Option, Bool, None}
+use Rattle.std.proofs.Common.{◌≡◌, ◌/◌, List, [], length, get_or, sym, ◌∙◌, ap, arith, subst, refl, Option, Bool, None}
 use Rattle.std.proofs.lemmas.List.{with_items_is}
 use Rattle.std.specs.Vec.{with_items}
 use Rattle.asp_clauses.specs.declared.trail.Step.{Step}
 use Rattle.asp_clauses.specs.Trail.{TrailState, literal_at}
-use Rattle.asp_clauses.specs.TrailFields.{steps_of, marks_of, state_of}
-use Rattle.asp_clauses.specs.Tables.{AreTables, AreMarks}
+use Rattle.asp_clauses.specs.TrailFields.{steps_of}
+use Rattle.asp_clauses.specs.Tables.{AreTables}
 use Rattle.asp_clauses.specs.Moves.{IsCleared}
-use Rattle.asp_clauses.specs.Book.{Goes}
 use Rattle.asp_clauses.proofs.BackLemmas.{TakenBack, AreTables-back, taken_back}
 use Rattle.asp_clauses.proofs.GoesLemmas.{Goes-empty, AreMarks-empty}
 use Rattle.asp_clauses.proofs.trail.Trail.reset.Goals as goal

@@ -1,7 +1,7 @@
 use Rattle.std.proofs.Common.{ap, arith}
 use Rattle.asp_clauses.specs.Trail.{TrailState}
 use Rattle.asp_clauses.specs.TrailFields.{steps_of}
-use Rattle.asp_clauses.proofs.TableLemmas.{value_read}
+use Rattle.asp_clauses.proofs.FewLemmas.{exact_read}
 use Rattle.asp_clauses.proofs.trail.Trail.value.Goals as goal
 
 pub returns : goal.returns
@@ -9,4 +9,4 @@ returns c =
     let i = c.self.inside in let v = c.self.invariant in
     let atoms = ap (λ (t : TrailState). t.atoms) c.self.view_is in
     let h = c.requires in
-    value_read i.atoms (steps_of i) c.args.self.now.steps i.values.items i.positions.items i.levels.items c.args.lit c.index.result.now v.tables (ap (λ (t : TrailState). t.steps) c.self.view_is) v.values_size (omega (arith, h, atoms)) c.index.ensures
+    exact_read i.atoms (steps_of i) c.args.self.now.steps i.values.items i.positions.items i.levels.items c.args.lit c.index.result.now v.tables (ap (λ (t : TrailState). t.steps) c.self.view_is) v.values_size (omega (arith, h, atoms)) c.index.ensures

@@ -1,4 +1,4 @@
-use Rattle.std.proofs.Common.{◌≡◌, ℕ, ◌+◌, List, set, get_or, ap, sym, ◌∙◌, refl, arith}
+use Rattle.std.proofs.Common.{ℕ, ◌+◌, set, get_or, ap, ◌∙◌, refl, arith}
 use Rattle.std.proofs.lemmas.List.{get_or_read}
 use Rattle.asp_clauses.specs.Records.{row_at}
 use Rattle.asp_clauses.proofs.WatchLemmas.{watch_code}

@@ -1,5 +1,3 @@
-use Rattle.std.proofs.Common.{◌≡◌, ◌+◌, ◌*◌, replicate}
-use Rattle.asp_clauses.specs.Records.{end}
 use Rattle.asp_clauses.proofs.StoreLemmas.{AreWatches-none}
 use Rattle.std.proofs.Common.{refl}
 use Rattle.asp_clauses.proofs.watches.Watches.new.Goals as goal
