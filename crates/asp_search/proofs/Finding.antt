@@ -1,0 +1,31 @@
+-- lemmas on what a search found, as its callers see it
+use Rattle.std.proofs.Common.{◌≡◌, ℕ, Bool, true, false, IsTrue, ◌↔◌, refl, sym}
+use Rattle.std.proofs.lemmas.Bool.{false≢true}
+use Rattle.asp_clauses.specs.declared.trail.Step.{Step}
+use Rattle.std.proofs.Common.{List}
+use Rattle.asp_clauses.specs.Trail.{IsPlaced}
+use Rattle.asp_search.specs.declared.search.Search.TheInside.{Inside}
+use Rattle.asp_search.specs.declared.solver.Solver.{Solver}
+use Rattle.asp_search.specs.Analysis.{is_member}
+use Rattle.asp_search.specs.Found.{literals_of, IsSatisfied}
+use Rattle.asp_search.specs.State.{IsFound}
+use Rattle.asp_search.specs.SearchFields.{state_of}
+use Rattle.asp_search.proofs.Counting.{member-Contains, not_member}
+use Rattle.asp_search.proofs.Deciding.{Contains-literals, placed_from}
+
+pub IsFound-view : (s : Inside) → IsSatisfied s.solver → IsFound (state_of s)
+IsFound-view s h = record { total = h.total; clauses = h.clauses; assumed = h.assumed }
+
+pub IsSatisfied-kept : (old new : Solver) → new.book ≡ old.book → new.trail ≡ old.trail → new.assumed ≡ old.assumed → IsSatisfied old → IsSatisfied new
+IsSatisfied-kept old new book trail assumed h = record {
+  total = rw trail h.total;
+  clauses = rw (trail, book) h.clauses;
+  assumed = rw (trail, assumed) h.assumed;
+}
+
+-- a test of the trail is a test of its literals
+pub test_is_member : (steps : List Step) (literal : ℕ) (result : Bool) → IsTrue result ↔ IsPlaced steps literal → result ≡ is_member (literals_of steps) literal
+test_is_member steps literal true tells =
+    sym (member-Contains (literals_of steps) literal (Contains-literals steps literal (tells.0 refl)))
+test_is_member steps literal false tells =
+    sym (not_member (literals_of steps) literal (λ c. false≢true (tells.1 (placed_from steps literal c))))

@@ -1,0 +1,13 @@
+pub mod Truth
+pub mod Trails
+pub mod Resolution
+pub mod Counting
+pub mod MarkTables
+pub mod Blaming
+pub mod Learning
+pub mod Clauses
+pub mod Stepping
+pub mod Tracing
+pub mod Deciding
+pub mod Adding
+pub mod Finding

@@ -1,0 +1,291 @@
+-- lemmas on how a step keeps what a search rests on
+use Rattle.std.proofs.Common.{◌≡◌, ℕ, suc, ◌+◌, ◌-◌, ◌*◌, ◌/◌, min, ◌<◌, ◌≤◌, ◌⊎◌, true, false, cond, List, [], ◌∷◌, ◌++◌, length, take, refl, sym, ap, ◌∙◌, subst, ⊎_elim, inl, inr, arith}
+use Rattle.std.specs.List.{Contains}
+use Rattle.std.proofs.lemmas.List.{get_or_append_left, get_or_push, length_push, length-take, take_all, get_or-take, ext_get_or, length-append, get_or-append_right}
+use Rattle.std.proofs.lemmas.List.Sums.{sum_by_push, sum_by-append, sum_by-cons}
+use Rattle.std.proofs.lemmas.List.Sorted.{Contains-permutation, IsPermutation-sym}
+use Rattle.std.proofs.lemmas.Bool.{cases_lt, cases_Bool, cond-false, cond-true, false≢true}
+use Rattle.asp_clauses.specs.declared.trail.Step.{Step}
+use Rattle.asp_clauses.specs.Literal.{negated}
+use Rattle.asp_clauses.specs.Trail.{TrailState, no_step, step_at, literal_at, is_decision, decisions, level_at, IsPlaced, IsFalse, IsLawful, clause_at, back_to}
+use Rattle.asp_clauses.specs.Book.{Goes, IsClause, SameClauses}
+use Rattle.asp_clauses.specs.Moves.{Places}
+use Rattle.asp_clauses.specs.Visits.{Extends}
+use Rattle.asp_search.specs.declared.solver.Solver.{Solver}
+use Rattle.asp_search.specs.Meaning.{SameMeaning}
+use Rattle.asp_search.specs.Cores.{IsCore}
+use Rattle.asp_search.specs.Analysis.{IsTopLevel}
+use Rattle.asp_search.specs.Solver.{DecidesAssumed, IsCursor, IsReady, AreInRange, AreRefuted, Stays}
+use Rattle.asp_search.proofs.Clauses.{SameMeaning-refl, SameMeaning-then, SameMeaning-reordered}
+use Rattle.asp_search.proofs.Trails.{kept_place, back_to-within, back_to-step, decisions-back_to}
+use Rattle.asp_search.proofs.MarkTables.{Contains-place}
+use Rattle.asp_search.proofs.Resolution.{fixed_true, false_unsatisfied}
+
+-- both lists have the same first steps
+pub record Begins (old new : List Step) (n : ℕ) : Type 0 where
+  pub inside : n ≤ length old
+  pub fits : n ≤ length new
+  pub same : (p : ℕ) → p < n → step_at new p ≡ step_at old p
+
+pub take-begins : (old new : List Step) (n k : ℕ) → Begins old new n → k ≤ n → take k new ≡ take k old
+take-begins old new n k b h =
+    ext_get_or no_step (take k new) (take k old) (omega (arith, length-take k new, length-take k old, b.inside, b.fits))
+    (λ i within.
+    let low : i < k = omega (arith, within, length-take k new) in
+    get_or-take k new i no_step low ∙ (b.same i (omega (arith, low, h)) ∙ sym (get_or-take k old i no_step low)))
+
+pub level_at-begins : (old new : List Step) (n p : ℕ) → Begins old new n → p < n → level_at new p ≡ level_at old p
+level_at-begins old new n p b h =
+    ap (λ (l : List Step). decisions l) (take-begins old new n (p + 1) b (omega (arith, h)))
+
+-- all steps and more
+pub Begins-append : (old added : List Step) → Begins old (old ++ added) (length old)
+Begins-append old added = record {
+  inside = omega arith;
+  fits = omega (arith, length-append old added);
+  same = λ p h. get_or_append_left old added no_step p h;
+}
+
+-- back to a level, and one step more
+pub Begins-back : (level : ℕ) (old : List Step) (step : Step) → Begins old (back_to level old ++ step ∷ []) (length (back_to level old))
+Begins-back level old step = record {
+  inside = ⊎_elim (λ (h : length (back_to level old) ≤ length old). h) (λ (h : length old < length (back_to level old)). absurd (omega (arith, back_to-within level old (length old) h))) (⊎_elim (λ (x : length old < length (back_to level old)). inr x) (λ (x : length (back_to level old) ≤ length old). inl x) (cases_lt (length old) (length (back_to level old))));
+  fits = omega (arith, length_push (back_to level old) step);
+  same = λ p h. get_or_append_left (back_to level old) (step ∷ []) no_step p h ∙ back_to-step level old p h;
+}
+
+-- decisions among the first steps are as before
+decides_before : (assumed : List ℕ) (old new : List Step) (n p : ℕ) → Begins old new n → DecidesAssumed assumed old → p < n → is_decision (step_at new p) ≡ true
+    → Contains assumed (literal_at new p) ⊎ ((literal : ℕ) → Contains assumed literal → IsPlaced (take p new) literal)
+decides_before assumed old new n p b decides h is =
+    let step = b.same p h in
+    ⊎_elim
+    (λ (c : Contains assumed (literal_at old p)). inl (subst (λ (s : Step). Contains assumed s.literal) (sym step) c))
+    (λ (all : (literal : ℕ) → Contains assumed literal → IsPlaced (take p old) literal).
+    inr (λ literal c. subst (λ (l : List Step). IsPlaced l literal) (sym (take-begins old new n p b (omega (arith, h)))) (all literal c)))
+    (decides p (omega (arith, h, b.inside)) (ap (λ (s : Step). is_decision s) (sym step) ∙ is))
+
+-- new steps are implied
+pub DecidesAssumed-implied : (assumed : List ℕ) (old new : List Step) (n : ℕ) → Begins old new n → ((p : ℕ) → n ≤ p → p < length new → is_decision (step_at new p) ≡ false) → DecidesAssumed assumed old → DecidesAssumed assumed new
+DecidesAssumed-implied assumed old new n b implied decides p within is =
+    ⊎_elim
+    (λ (h : p < n). decides_before assumed old new n p b decides h is)
+    (λ (h : n ≤ p). absurd (false≢true (sym (implied p h within) ∙ is)))
+    (cases_lt p n)
+
+pub DecidesAssumed-back : (assumed : List ℕ) (old : List Step) (step : Step) (level : ℕ) → is_decision step ≡ false → DecidesAssumed assumed old → DecidesAssumed assumed (back_to level old ++ step ∷ [])
+DecidesAssumed-back assumed old step level implied decides =
+    DecidesAssumed-implied assumed old (back_to level old ++ step ∷ []) (length (back_to level old)) (Begins-back level old step)
+    (λ p low within. ap (λ (s : Step). is_decision s) (get_or_push (back_to level old) step no_step p (omega (arith, low, within, length_push (back_to level old) step))) ∙ implied) decides
+
+-- one new step is a decision on an assumption, or all assumptions are true
+pub DecidesAssumed-decided : (assumed : List ℕ) (old : List Step) (step : Step) → Contains assumed step.literal ⊎ ((literal : ℕ) → Contains assumed literal → IsPlaced old literal) → DecidesAssumed assumed old → DecidesAssumed assumed (old ++ step ∷ [])
+DecidesAssumed-decided assumed old step why decides p within is =
+    let b = Begins-append old (step ∷ []) in
+    ⊎_elim
+    (λ (h : p < length old). decides_before assumed old (old ++ step ∷ []) (length old) p b decides h is)
+    (λ (h : length old ≤ p).
+    let here : step_at (old ++ step ∷ []) p ≡ step = get_or_push old step no_step p (omega (arith, h, within, length_push old step)) in
+    let all_old : take p (old ++ step ∷ []) ≡ old = take-begins old (old ++ step ∷ []) (length old) p b (omega (arith, within, length_push old step)) ∙ take_all p old h in
+    ⊎_elim
+    (λ (c : Contains assumed step.literal). inl (subst (λ (s : Step). Contains assumed s.literal) (sym here) c))
+    (λ (all : (literal : ℕ) → Contains assumed literal → IsPlaced old literal). inr (λ literal c. subst (λ (l : List Step). IsPlaced l literal) (sym all_old) (all literal c)))
+    why)
+    (cases_lt p (length old))
+
+decisions-push-implied : (steps : List Step) (step : Step) → is_decision step ≡ false → decisions (steps ++ step ∷ []) ≡ decisions steps
+decisions-push-implied steps step h =
+    omega (arith, sum_by_push (λ (s : Step). cond (is_decision s) 1 0) steps step, cond-false {A = ℕ} (is_decision step) 1 0 h)
+
+pub decisions-push-le : (steps : List Step) (step : Step) → decisions (steps ++ step ∷ []) ≤ decisions steps + 1
+decisions-push-le steps step =
+    ⊎_elim
+    (λ (t : is_decision step ≡ true). omega (arith, sum_by_push (λ (s : Step). cond (is_decision s) 1 0) steps step, cond-true {A = ℕ} (is_decision step) 1 0 t))
+    (λ (f : is_decision step ≡ false). omega (arith, decisions-push-implied steps step f))
+    (cases_Bool (is_decision step))
+
+-- the lower of two numbers
+pub record IsLower (a b lower : ℕ) : Type 0 where
+  pub left : lower ≤ a
+  pub right : lower ≤ b
+  pub one : (lower ≡ a) ⊎ (lower ≡ b)
+
+pub min-lower : (a b : ℕ) → IsLower a b (min a b)
+min-lower a b = record {
+  left = omega arith;
+  right = omega arith;
+  one = ⊎_elim (λ (h : b < a). inr (omega (arith, h))) (λ (h : a ≤ b). inl (omega (arith, h))) (cases_lt b a);
+}
+
+-- the cursor after a jump
+pub IsCursor-back : (assumed : List ℕ) (old : List Step) (step : Step) (cursor level lower : ℕ) → is_decision step ≡ false → level < decisions old → IsLower cursor level lower → IsCursor assumed old cursor → IsCursor assumed (back_to level old ++ step ∷ []) lower
+IsCursor-back assumed old step cursor level lower implied above low c =
+    let new = back_to level old ++ step ∷ [] in
+    let b = Begins-back level old step in
+    record {
+      within = omega (arith, low.left, c.within);
+      placed = λ i h.
+          let q = c.placed i (omega (arith, h, low.left)) in
+          let kept : q.0 < length (back_to level old) = kept_place level old q.0 q.1 (omega (arith, q.3, h, low.right)) in
+          (q.0, omega (arith, kept, length_push (back_to level old) step), ap (λ (s : Step). s.literal) (b.same q.0 kept) ∙ q.2, omega (arith, q.3, level_at-begins old new (length (back_to level old)) q.0 b kept));
+      decided = λ h.
+          ⊎_elim
+          (λ (e : lower ≡ cursor). ⊎_elim (λ (x : cursor < length assumed). absurd (omega (arith, c.decided x, above, e, low.right))) (λ (x : length assumed ≤ cursor). absurd (omega (arith, h, e, x))) (cases_lt cursor (length assumed)))
+          (λ (e : lower ≡ level). omega (arith, e, decisions-push-implied (back_to level old) step implied, decisions-back_to old level))
+          low.one;
+    }
+
+-- the cursor after steps that are implied
+pub IsCursor-implied : (assumed : List ℕ) (old added : List Step) (cursor : ℕ) → decisions (old ++ added) ≡ decisions old → IsCursor assumed old cursor → IsCursor assumed (old ++ added) cursor
+IsCursor-implied assumed old added cursor same c =
+    let b = Begins-append old added in
+    record {
+      within = c.within;
+      placed = λ i h.
+          let q = c.placed i h in
+          (q.0, omega (arith, q.1, length-append old added), ap (λ (s : Step). s.literal) (b.same q.0 q.1) ∙ q.2, omega (arith, q.3, level_at-begins old (old ++ added) (length old) q.0 b q.1));
+      decided = λ h. omega (arith, same, c.decided h);
+    }
+
+-- one clause more
+pub AreInRange-push : (atoms : ℕ) (clauses : List (List ℕ)) (clause : List ℕ) → IsClause atoms clause → AreInRange atoms clauses → AreInRange atoms (clauses ++ clause ∷ [])
+AreInRange-push atoms clauses clause is ranges n literal within has =
+    ⊎_elim
+    (λ (b : n < length clauses). ranges n literal b (subst (λ (c : List ℕ). Contains c literal) (get_or_append_left clauses (clause ∷ []) [] n b) has))
+    (λ (u : length clauses ≤ n).
+    let k = Contains-place clause literal (subst (λ (c : List ℕ). Contains c literal) (get_or_push clauses clause [] n (omega (arith, u, within, length_push clauses clause))) has) in
+    subst (λ (l : ℕ). l < 2 * atoms) k.2 (is.in_range k.0 k.1))
+    (cases_lt n (length clauses))
+
+-- ---- propagation
+
+decisions-implied : (added : List Step) → ((place : ℕ) → place < length added → is_decision (step_at added place) ≡ false) → decisions added ≡ 0
+decisions-implied [] implied = refl
+decisions-implied (s ∷ later) implied =
+    omega (arith, sum_by-cons (λ (s : Step). cond (is_decision s) 1 0) s later, cond-false {A = ℕ} (is_decision s) 1 0 (implied 0 (omega arith)), decisions-implied later (λ p h. implied (suc p) (omega (arith, h))))
+
+pub decisions-append-implied : (old added : List Step) → ((place : ℕ) → place < length added → is_decision (step_at added place) ≡ false) → decisions (old ++ added) ≡ decisions old
+decisions-append-implied old added implied =
+    omega (arith, sum_by-append (λ (s : Step). cond (is_decision s) 1 0) old added, decisions-implied added implied)
+
+pub DecidesAssumed-append : (assumed : List ℕ) (old added : List Step) → ((place : ℕ) → place < length added → is_decision (step_at added place) ≡ false) → DecidesAssumed assumed old → DecidesAssumed assumed (old ++ added)
+DecidesAssumed-append assumed old added implied decides =
+    DecidesAssumed-implied assumed old (old ++ added) (length old) (Begins-append old added)
+    (λ p low within. ap (λ (s : Step). is_decision s) (get_or-append_right old added (length old) p no_step refl low) ∙ implied (p - length old) (omega (arith, low, within, length-append old added))) decides
+
+pub AreInRange-reordered : (atoms : ℕ) (old new : List (List ℕ)) → SameClauses old new → AreInRange atoms old → AreInRange atoms new
+AreInRange-reordered atoms old new same ranges n literal within has =
+    let inside : n < length old = omega (arith, within, same.as_many) in
+    ranges n literal inside (Contains-permutation (clause_at new n) (clause_at old n) literal (IsPermutation-sym (clause_at old n) (clause_at new n) (same.reordered n inside)) has)
+
+-- where the conflict is false from the start, no assignment satisfies the clauses
+pub refuted_at_zero : (atoms : ℕ) (clauses : List (List ℕ)) (steps : List Step) → IsLawful atoms clauses steps → (number level : ℕ) → number < length clauses → IsFalse steps (clause_at clauses number) → IsTopLevel steps (clause_at clauses number) level → level ≡ 0 → AreRefuted clauses
+refuted_at_zero atoms clauses steps lawful number level within fails top zero_level v sat =
+    false_unsatisfied v (clause_at clauses number) (sat number within) (λ other c.
+    let p = fails other c in
+    fixed_true atoms clauses steps lawful v sat (negated other) (record { place = p.0; within = p.1; is = p.2; low = omega (arith, zero_level, top.most other p.0 c p.1 p.2) }))
+
+-- a solver that differs in nothing that matters
+pub IsReady-kept : (old new : Solver) → IsReady old → new.book ≡ old.book → new.trail ≡ old.trail → new.assumed ≡ old.assumed → new.cursor ≡ old.cursor → new.marks.codes ≡ old.marks.codes → new.marks.marked ≡ [] → new.order.atoms ≡ old.order.atoms → IsReady new
+IsReady-kept old new ready book trail assumed cursor codes unmarked order = record {
+  fitted = record {
+    goes = rw (book, trail) ready.fitted.goes;
+    few = rw trail ready.fitted.few;
+    codes = rw trail (codes ∙ ready.fitted.codes);
+    ordered = rw trail (order ∙ ready.fitted.ordered);
+  };
+  ranges = rw (book, trail) ready.ranges;
+  unmarked = unmarked;
+  assumptions = rw (trail, assumed) ready.assumptions;
+  assumed = rw (trail, assumed) ready.assumed;
+  cursor = rw (trail, assumed, cursor) ready.cursor;
+}
+
+-- nothing that callers see has changed
+pub Stays-kept : (old new : Solver) → IsReady old → new.book ≡ old.book → new.trail ≡ old.trail → new.assumed ≡ old.assumed → new.cursor ≡ old.cursor → new.marks.codes ≡ old.marks.codes → new.marks.marked ≡ [] → new.order.atoms ≡ old.order.atoms → new.decided ≡ old.decided → Stays old new
+Stays-kept old new ready book trail assumed cursor codes unmarked order decided = record {
+  ready = IsReady-kept old new ready book trail assumed cursor codes unmarked order;
+  meaning = rw book (SameMeaning-refl old.book.clauses);
+  atoms = ap (λ (t : TrailState). t.atoms) trail;
+  budget = ap (λ (t : TrailState). t.budget) trail;
+  assumptions = rw assumed refl;
+  count = let same = ap (λ (t : TrailState). t.count) trail in omega (arith, same);
+  decided = omega (arith, decided);
+}
+
+-- one decision more
+pub Stays-decided : (old new : Solver) (step : Step) → IsReady old → Places old.trail new.trail old.trail.steps step → Goes old.book new.trail → new.book ≡ old.book → new.assumed ≡ old.assumed → new.marks ≡ old.marks → new.order.atoms ≡ old.order.atoms → DecidesAssumed old.assumed.items (old.trail.steps ++ step ∷ []) → IsCursor old.assumed.items (old.trail.steps ++ step ∷ []) new.cursor → old.decided ≤ new.decided → Stays old new
+Stays-decided old new step ready placed goes book assumed marks order decides cursor decided = record {
+  ready = record {
+    fitted = record {
+      goes = rw book goes;
+      few = rw placed.atoms ready.fitted.few;
+      codes = rw (marks, placed.atoms) ready.fitted.codes;
+      ordered = rw placed.atoms (order ∙ ready.fitted.ordered);
+    };
+    ranges = rw (placed.atoms, book) ready.ranges;
+    unmarked = rw marks ready.unmarked;
+    assumptions = rw (placed.atoms, assumed) ready.assumptions;
+    assumed = rw (assumed, placed.steps) decides;
+    cursor = rw (assumed, placed.steps) cursor;
+  };
+  meaning = rw book (SameMeaning-refl old.book.clauses);
+  atoms = placed.atoms;
+  budget = placed.budget;
+  assumptions = rw assumed refl;
+  count = let more = placed.count in omega (arith, more);
+  decided = decided;
+}
+
+-- implied literals more
+pub Stays-propagated : (old new : Solver) → IsReady old → Goes new.book new.trail → SameClauses old.book.clauses new.book.clauses → Extends old.trail new.trail → new.assumed ≡ old.assumed → new.cursor ≡ old.cursor → new.marks ≡ old.marks → new.order ≡ old.order → new.decided ≡ old.decided → Stays old new
+Stays-propagated old new ready goes clauses extended assumed cursor marks order decided =
+    let e = extended.1 in
+    record {
+      ready = record {
+        fitted = record {
+          goes = goes;
+          few = rw e.atoms ready.fitted.few;
+          codes = rw (marks, e.atoms) ready.fitted.codes;
+          ordered = rw (order, e.atoms) ready.fitted.ordered;
+        };
+        ranges = rw e.atoms (AreInRange-reordered old.trail.atoms old.book.clauses new.book.clauses clauses ready.ranges);
+        unmarked = rw marks ready.unmarked;
+        assumptions = rw (e.atoms, assumed) ready.assumptions;
+        assumed = rw (assumed, e.steps) (DecidesAssumed-append old.assumed.items old.trail.steps extended.0 e.implied ready.assumed);
+        cursor = rw (assumed, e.steps, cursor) (IsCursor-implied old.assumed.items old.trail.steps extended.0 old.cursor (decisions-append-implied old.trail.steps extended.0 e.implied) ready.cursor);
+      };
+      meaning = SameMeaning-reordered old.book.clauses new.book.clauses clauses;
+      atoms = e.atoms;
+      budget = e.budget;
+      assumptions = rw assumed refl;
+      count = let more = e.count in omega (arith, more);
+      decided = omega (arith, decided);
+    }
+
+pub Stays-then : (old middle new : Solver) → Stays old middle → Stays middle new → Stays old new
+Stays-then old middle new a b = record {
+  ready = b.ready;
+  meaning = SameMeaning-then old.book.clauses middle.book.clauses new.book.clauses a.meaning b.meaning;
+  atoms = b.atoms ∙ a.atoms;
+  budget = b.budget ∙ a.budget;
+  assumptions = b.assumptions ∙ a.assumptions;
+  count = omega (arith, a.count, b.count);
+  decided = omega (arith, a.decided, b.decided);
+}
+
+-- a core of clauses with the same meaning
+pub IsCore-before : (old new : List (List ℕ)) (assumed core : List ℕ) → SameMeaning old new → IsCore new assumed core → IsCore old assumed core
+IsCore-before old new assumed core same c = record {
+  part = c.part;
+  refuted = λ v sat all. c.refuted v (same.forth v sat) all;
+  mentioned = λ literal has. same.atoms (literal / 2) (c.mentioned literal has);
+}
+
+-- refuted clauses have the empty core
+pub IsCore-empty : (clauses : List (List ℕ)) (assumed : List ℕ) → AreRefuted clauses → IsCore clauses assumed []
+IsCore-empty clauses assumed refuted = record {
+  part = λ literal c. absurd (omega (arith, c.1));
+  refuted = λ v sat all. refuted v sat;
+  mentioned = λ literal c. absurd (omega (arith, c.1));
+}

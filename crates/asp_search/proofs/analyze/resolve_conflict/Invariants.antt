@@ -1,0 +1,10 @@
+use Rattle.asp_search.specs.Analysis.{IsWalk}
+use Rattle.asp_search.specs.Fit.{AreKept}
+use Rattle.asp_search.proofs.analyze.resolve_conflict.Given as goal
+
+abbrev pub invariant-loop-left : goal.invariant-loop-left
+invariant-loop-left l =
+    AreKept l.initial.marks l.initial.order l.marks l.order × IsWalk l.book.clauses l.trail.steps l.marks.marked l.level l.end l.pending
+
+abbrev pub decreases-loop-left : goal.decreases-loop-left
+decreases-loop-left l = l.end

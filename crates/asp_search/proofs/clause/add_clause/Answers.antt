@@ -1,0 +1,13 @@
+use Rattle.std.proofs.Common.{◌∙◌}
+use Rattle.asp_search.proofs.Adding.{IsReady-book}
+use Rattle.asp_search.proofs.clause.add_clause.Goals as goal
+
+pub returns-clause-keeps : goal.returns-clause-keeps
+returns-clause-keeps c =
+    let k = c.insert_clause-added.ensures.keeps in
+    record {
+      ready = IsReady-book c.args.solver.now _ c.requires.ready (record { goes = k.goes; ranges = k.ranges; trail = k.trail; assumed = k.assumed; cursor = k.cursor; codes = c.clear.ensures.codes ∙ k.codes; order = k.order; decided = k.decided }) c.clear.ensures.none;
+      trail = k.trail;
+      assumed = k.assumed;
+      decided = k.decided;
+    }

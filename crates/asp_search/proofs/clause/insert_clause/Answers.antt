@@ -1,0 +1,64 @@
+use Rattle.std.proofs.Common.{◌≡◌, ◌*◌, ℕ, List, ◌∙◌, sym, subst, refl, arith}
+use Rattle.asp_clauses.specs.Book.{IsClause}
+use Rattle.asp_search.specs.Marks.{AreCodes}
+use Rattle.asp_search.specs.Clause.{Collects}
+use Rattle.asp_search.proofs.Truth.{negated-lt}
+use Rattle.asp_search.proofs.Stepping.{AreInRange-push}
+use Rattle.asp_search.proofs.Adding.{IsClause-collected, AddsClause-collected, AddsClause-tautology}
+use Rattle.asp_search.proofs.clause.insert_clause.Goals as goal
+use Rattle.asp_search.proofs.clause.insert_clause.Goals.{After-as_slice}
+
+pub collect-requires-clause-even : goal.collect-requires-clause-even
+collect-requires-clause-even c = λ code low.
+    omega (arith, c.requires.ready.fitted.codes, negated-lt c.args.solver.now.trail.atoms code (omega (arith, low, c.requires.ready.fitted.codes)))
+
+pub returns-then-branch-clause-added : goal.returns-then-branch-clause-added
+returns-then-branch-clause-added c =
+    AddsClause-tautology c.args.solver.now.book.clauses c.args.clause.now (c.in_ok-collect.ensures.collected c.if-branch.true)
+
+collects : (c : After-as_slice) → Collects c.args.clause.now c.as_slice.result.now
+collects c =
+    subst (λ (l : List ℕ). Collects c.args.clause.now l) (sym c.as_slice.ensures.marked) (c.in_ok-collect.ensures.marked c.if-branch.false)
+
+is_clause : (c : After-as_slice) → IsClause c.args.solver.now.trail.atoms c.as_slice.result.now
+is_clause c =
+    let limit : c.collect.new.marks.codes ≡ 2 * c.args.solver.now.trail.atoms = c.collect.ensures.codes ∙ c.requires.ready.fitted.codes in
+    IsClause-collected c.args.solver.now.trail.atoms c.args.clause.now c.as_slice.result.now (subst (λ (n : ℕ). AreCodes n c.as_slice.result.now) limit c.as_slice.ensures.codes) c.as_slice.ensures.distinct (collects c)
+
+pub add-requires : goal.add-requires
+add-requires c =
+    subst (λ (n : ℕ). IsClause n c.as_slice.result.now) (sym c.requires.ready.fitted.goes.same_atoms) (is_clause (goal.at.add-requires c).After-as_slice)
+
+pub returns-in-Ok-clause-keeps : goal.returns-in-Ok-clause-keeps
+returns-in-Ok-clause-keeps c =
+    let d = (goal.at.returns-in-Ok-clause-keeps c).After-as_slice in
+    let old = c.args.solver.now in
+    record {
+      goes = c.in-Ok.ensures.goes old.trail c.requires.ready.fitted.goes;
+      ranges = rw c.in-Ok.ensures.added (AreInRange-push old.trail.atoms old.book.clauses c.as_slice.result.now (is_clause d) c.requires.ready.ranges);
+      trail = refl;
+      assumed = refl;
+      cursor = refl;
+      codes = c.collect.ensures.codes;
+      order = refl;
+      decided = refl;
+    }
+
+pub returns-in-Ok-clause-added : goal.returns-in-Ok-clause-added
+returns-in-Ok-clause-added c =
+    let d = (goal.at.returns-in-Ok-clause-added c).After-as_slice in
+    rw c.in-Ok.ensures.added (AddsClause-collected c.args.solver.now.book.clauses c.args.clause.now c.as_slice.result.now (collects d))
+
+pub returns-in-Err-clause-keeps : goal.returns-in-Err-clause-keeps
+returns-in-Err-clause-keeps c =
+    let same = c.in-Err.ensures.unchanged in
+    record {
+      goes = rw same c.requires.ready.fitted.goes;
+      ranges = rw same c.requires.ready.ranges;
+      trail = refl;
+      assumed = refl;
+      cursor = refl;
+      codes = c.collect.ensures.codes;
+      order = refl;
+      decided = refl;
+    }

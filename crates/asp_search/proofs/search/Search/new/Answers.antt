@@ -1,0 +1,36 @@
+use Rattle.std.proofs.Common.{◌∙◌, sym, [], arith}
+use Rattle.asp_search.specs.Solver.{AreAssumptions, AreInRange, DecidesAssumed, IsCursor}
+use Rattle.asp_search.proofs.search.Search.new.Goals as goal
+
+pub invariant_of-result : goal.invariant_of-result
+invariant_of-result c =
+    let trail = c.in_ok-trail.trail in
+    let ranges : AreInRange trail.atoms [] = λ number literal within has. absurd (omega (arith, within)) in
+    let assumptions : AreAssumptions trail.atoms [] = record {
+      codes = λ i within. absurd (omega (arith, within));
+      distinct = λ i j below within. absurd (omega (arith, within));
+    } in
+    let decides : DecidesAssumed [] [] = λ place within is. absurd (omega (arith, within)) in
+    let cursor : IsCursor [] [] 0 = record {
+      within = omega arith;
+      placed = λ i within. absurd (omega (arith, within));
+      decided = λ within. omega arith;
+    } in
+    record {
+      ready = record {
+        fitted = record {
+          goes = c.in_ok-trail.ensures.goes c.in_ok-book.book c.in_ok-book.ensures.atoms;
+          few = rw c.in_ok-trail.ensures.atoms c.requires;
+          codes = rw c.in_ok-trail.ensures.atoms c.in_ok-marks.ensures.codes;
+          ordered = c.in_ok-order.ensures ∙ sym c.in_ok-trail.ensures.atoms;
+        };
+        ranges = rw c.in_ok-book.ensures.empty ranges;
+        unmarked = c.in_ok-marks.ensures.none;
+        assumptions = rw c.new-6.ensures.items assumptions;
+        assumed = rw (c.new-6.ensures.items, c.in_ok-trail.ensures.empty) decides;
+        cursor = rw (c.new-6.ensures.items, c.in_ok-trail.ensures.empty) cursor;
+      };
+      budget = sym c.in_ok-trail.ensures.budget;
+      found = λ e. cc;
+      spent = λ e. cc;
+    }

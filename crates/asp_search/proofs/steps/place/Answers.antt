@@ -1,0 +1,12 @@
+use Rattle.std.proofs.Common.{refl, inr, None, arith}
+use Rattle.asp_search.proofs.Stepping.{Stays-decided, DecidesAssumed-decided}
+use Rattle.asp_search.proofs.Deciding.{IsCursor-past}
+use Rattle.asp_search.proofs.steps.place.Goals as goal
+
+pub returns-in-Ok-clause-stays : goal.returns-in-Ok-clause-stays
+returns-in-Ok-clause-stays c =
+    let old = c.args.solver.now in
+    Stays-decided old _ (record { literal = c.args.literal; reason = None }) c.requires.ready c.in-Ok.ensures.placed (c.in-Ok.ensures.goes old.book c.requires.ready.fitted.goes) refl refl refl refl
+    (DecidesAssumed-decided old.assumed.items old.trail.steps (record { literal = c.args.literal; reason = None }) (inr c.requires.all) c.requires.ready.assumed)
+    (IsCursor-past old.assumed.items old.trail.steps (record { literal = c.args.literal; reason = None }) old.cursor c.requires.cursor c.requires.ready.cursor)
+    (omega (arith, c.saturating_add-solver.ensures))

@@ -1,0 +1,19 @@
+-- What an analysis leaves.
+use Rattle.std.specs.Prelude.{◌≡◌, ℕ, ◌<◌, length}
+use Rattle.asp_search.specs.declared.solver.Solver.{Solver}
+use Rattle.asp_search.specs.Analysis.{IsLearned}
+
+-- the clause that stands in `learned` follows, and implies a literal once the trail went back
+pub record Derives (solver : Solver) (place target : ℕ) : Type 0 where
+  pub within : place < length solver.trail.steps
+  pub learned : IsLearned solver.trail.atoms solver.book.clauses solver.trail.steps solver.learned.items place target
+
+-- only marks, order and the learned clause have changed
+pub record Keeps (old new : Solver) : Type 0 where
+  pub book : new.book ≡ old.book
+  pub trail : new.trail ≡ old.trail
+  pub assumed : new.assumed ≡ old.assumed
+  pub cursor : new.cursor ≡ old.cursor
+  pub codes : new.marks.codes ≡ old.marks.codes
+  pub order : new.order.atoms ≡ old.order.atoms
+  pub decided : new.decided ≡ old.decided

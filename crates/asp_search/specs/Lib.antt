@@ -1,0 +1,13 @@
+pub mod Meaning
+pub mod Analysis
+pub mod Marks
+pub mod Order
+pub mod Fit
+pub mod Solver
+pub mod Deriving
+pub mod Cores
+pub mod Found
+pub mod State
+pub mod SearchFields
+pub mod Clause
+pub mod Laws

@@ -1,0 +1,25 @@
+-- What the fields of a search say.
+use Rattle.std.specs.Prelude.{◌≡◌}
+use Rattle.asp_search.specs.declared.stage.Stage.TheVariants.{Found, Spent}
+use Rattle.asp_search.specs.declared.search.Search.TheInside.{Inside}
+use Rattle.asp_search.specs.Solver.{IsReady}
+use Rattle.asp_search.specs.Found.{literals_of, IsSatisfied}
+use Rattle.asp_search.specs.State.{SearchState}
+
+abbrev pub state_of : Inside → SearchState
+state_of s = record {
+  atoms = s.solver.trail.atoms;
+  budget = s.solver.trail.budget;
+  count = s.solver.trail.count;
+  clauses = s.solver.book.clauses;
+  assumed = s.solver.assumed.items;
+  trail = literals_of s.solver.trail.steps;
+  stage = s.stage;
+  decisions = s.solver.decided;
+}
+
+pub record IsSound (s : Inside) : Type 0 where
+  pub ready : IsReady s.solver
+  pub budget : s.budget ≡ s.solver.trail.budget
+  pub found : s.stage ≡ Found → IsSatisfied s.solver
+  pub spent : s.stage ≡ Spent → s.solver.trail.count ≡ s.solver.trail.budget

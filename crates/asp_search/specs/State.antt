@@ -1,0 +1,67 @@
+-- What contracts see of a search.
+use Rattle.std.specs.Prelude.{◌≡◌, ℕ, ◌+◌, ◌*◌, ◌/◌, ◌<◌, ◌≤◌, ◌≢◌, ◌⊎◌, List, [], length, slice_index}
+use Rattle.std.specs.List.{Contains}
+use Rattle.asp_search.specs.declared.stage.Stage.{Stage}
+use Rattle.asp_search.specs.declared.stage.Stage.TheVariants.{New, Begun, Found, Extended, Spent, NoMemory}
+use Rattle.asp_search.specs.Meaning.{SatisfiesAll, AllTrue, AddsClause, SameMeaning}
+use Rattle.asp_search.specs.Found.{assignment_of}
+
+-- `clauses` has the meaning of the added ones; `trail` has the literals that are true, in the order in which they were
+-- placed; `count` is how many were placed since the search began, `decisions` how many were decided since it was made
+pub record SearchState : Type 0 where
+  pub atoms : ℕ
+  pub budget : ℕ
+  pub count : ℕ
+  pub clauses : List (List ℕ)
+  pub assumed : List ℕ
+  pub trail : List ℕ
+  pub stage : Stage
+  pub decisions : ℕ
+
+-- no clause, no assumption, no search
+pub record IsFresh (search : SearchState) (atoms budget : ℕ) : Type 0 where
+  pub atoms_are : search.atoms ≡ atoms
+  pub budget_is : search.budget ≡ budget
+  pub count : search.count ≡ 0
+  pub clauses : search.clauses ≡ []
+  pub assumed : search.assumed ≡ []
+  pub trail : search.trail ≡ []
+  pub stage : search.stage ≡ New
+  pub decisions : search.decisions ≡ 0
+
+-- after a clause was added an answer may be another one
+abbrev pub stage_after_add : Stage → Stage
+stage_after_add New = New
+stage_after_add Begun = Begun
+stage_after_add Found = Extended
+stage_after_add Extended = Extended
+stage_after_add Spent = Spent
+stage_after_add NoMemory = NoMemory
+
+-- the clause is added, and nothing else changes
+pub record Adds (old new : SearchState) (clause : List ℕ) : Type 0 where
+  pub clauses : AddsClause old.clauses new.clauses clause
+  pub rest : new ≡ record old { clauses = new.clauses; stage = stage_after_add old.stage }
+
+-- no atom twice
+abbrev pub AreDifferent : List ℕ → Type 0
+AreDifferent literals = (i j : ℕ) → i < j → j < length literals → slice_index literals i / 2 ≢ slice_index literals j / 2
+
+-- a search goes on: the clauses keep their meaning, and no placement is forgotten
+pub record GoesOn (old new : SearchState) : Type 0 where
+  pub atoms : new.atoms ≡ old.atoms
+  pub budget : new.budget ≡ old.budget
+  pub clauses : SameMeaning old.clauses new.clauses
+  pub assumed : new.assumed ≡ old.assumed
+  pub count : old.count ≤ new.count
+  pub decisions : old.decisions ≤ new.decisions
+
+-- each atom has a value; clauses and assumptions hold
+pub record IsFound (search : SearchState) : Type 0 where
+  pub total : (atom : ℕ) → atom < search.atoms → Contains search.trail (2 * atom + 1) ⊎ Contains search.trail (2 * atom)
+  pub clauses : SatisfiesAll (assignment_of search.trail) search.clauses
+  pub assumed : AllTrue (assignment_of search.trail) search.assumed
+
+-- the last answer of the search was an assignment
+abbrev pub HasFound : SearchState → Type 0
+HasFound search = (search.stage ≡ Found) ⊎ (search.stage ≡ Extended)

@@ -1,0 +1,64 @@
+//! A clause as callers give it: repeated literals are dropped, and a clause with both literals of an atom adds nothing.
+
+ghost use Rattle.std.specs.Prelude.{◌≡◌, ℕ, ◌+◌, ◌*◌, ◌<◌, ◌≤◌, ◌^◌, [], length, true, false, IsTrue, IfOk, OnOk, OnErr, slice_index};
+ghost use Rattle.std.specs.List.{Contains};
+ghost use Rattle.asp_clauses.specs.Literal.{negated};
+ghost use Rattle.asp_search.specs.Meaning.{AddsClause};
+ghost use Rattle.asp_search.specs.Marks.{AreCodes};
+ghost use Rattle.asp_search.specs.Solver.{IsReady};
+ghost use Rattle.asp_search.specs.Clause.{KeepsAll, KeepsBook, IsTautology, Collects};
+
+use crate::NoMemory;
+use crate::marks::Marks;
+use crate::solver::{Solver, opposite};
+use std::alloc::Global;
+
+/// Adds a clause to the book.
+pub fn add_clause(solver: &mut Solver, alloc: Global, clause: &[u32]) -> Result<(), NoMemory>
+    requires ready { IsReady solver.old }
+    requires codes { AreCodes (2 * solver.old.trail.atoms) clause.now }
+    ensures keeps { KeepsAll solver.old solver.new }
+    ensures added { OnOk result (AddsClause solver.old.book.clauses solver.new.book.clauses clause.now) }
+    ensures unchanged { OnErr result (solver.new.book ≡ solver.old.book) }
+{
+    let added = insert_clause(solver, alloc, clause);
+    solver.marks.clear();
+    added
+}
+
+/// Adds the clause's literals, each once, unless both of an atom are among them. Marks are left to be taken back.
+fn insert_clause(solver: &mut Solver, alloc: Global, clause: &[u32]) -> Result<(), NoMemory>
+    requires ready { IsReady solver.old }
+    requires codes { AreCodes (2 * solver.old.trail.atoms) clause.now }
+    ensures keeps { KeepsBook solver.old solver.new }
+    ensures added { OnOk result (AddsClause solver.old.book.clauses solver.new.book.clauses clause.now) }
+    ensures unchanged { OnErr result (solver.new.book ≡ solver.old.book) }
+{
+    if collect(&mut solver.marks, clause)? {
+        return Ok(());
+    }
+    match solver.book.add(alloc, solver.marks.as_slice()) {
+        Ok(_) => Ok(()),
+        Err(fault) => Err(fault),
+    }
+}
+
+/// Marks the literals of the clause; true where both literals of an atom stand in it.
+fn collect(marks: &mut Marks, clause: &[u32]) -> Result<bool, NoMemory>
+    requires codes { AreCodes marks.old.codes clause.now }
+    requires even { (code : ℕ) → code < marks.old.codes → negated code < marks.old.codes }
+    requires unmarked { marks.old.marked ≡ [] }
+    ensures codes { marks.new.codes ≡ marks.old.codes }
+    ensures collected { IfOk result (λ tautology. IsTrue tautology → IsTautology clause.now) }
+    ensures marked { IfOk result (λ tautology. tautology ≡ false → Collects clause.now marks.new.marked) }
+{
+    for literal in clause {
+        if marks.contains(opposite(*literal)) {
+            return Ok(true);
+        }
+        if !marks.contains(*literal) {
+            marks.insert(*literal)?;
+        }
+    }
+    Ok(false)
+}

@@ -1,0 +1,321 @@
+//! Which atom is decided next, and with which phase: the one of the highest activity that waits in a heap.
+//!
+//! Nothing but speed rests on activities and on the heap's order, so contracts say only what keeps a call safe.
+
+ghost use Rattle.std.specs.Prelude.{◌≡◌, ℕ, ◌+◌, ◌*◌, ◌/◌, ◌<◌, ◌≤◌, ◌^◌, ◌⊎◌, false, length, None, IsTrue, IfOk, IfSome, OnSome, slice_index};
+ghost use Rattle.asp_clauses.specs.Trail.{IsPlaced, IsUnassigned};
+ghost use Rattle.asp_search.specs.Marks.{AreCodes};
+ghost use Rattle.asp_search.specs.Found.{IsTotal};
+
+use crate::NoMemory;
+use asp_clauses::Trail;
+use std::alloc::Global;
+use std::marker::Model;
+
+/// An activity above this has all of them scaled down.
+const CEILING: u64 = 1 << 56;
+
+/// By how many bits.
+const SCALE: u32 = 40;
+
+/// The first bump.
+const FIRST_BUMP: u64 = 1 << 16;
+
+/// The place of an atom that doesn't wait.
+const ABSENT: u32 = u32::MAX;
+
+/// The order in which atoms are decided.
+#[derive(Drop)]
+pub struct Order {
+    // How often, and how lately, each atom was part of a conflict.
+    activities: Vec<u64>,
+    // What the next part in a conflict adds.
+    bump: u64,
+    // The first `waiting` are the atoms that wait, no atom more active than the one above it.
+    heap: Vec<u32>,
+    waiting: u32,
+    // Where each atom stands in the heap.
+    places: Vec<u32>,
+    // The value that each atom had last.
+    phases: Vec<bool>,
+}
+
+impl Model for Order {
+    ghost use Rattle.asp_search.specs.Order.{OrderState, IsOrder};
+    ghost use Rattle.std.specs.Prelude.{length};
+
+    ghost Value = { OrderState };
+
+    ghost view = { λ o. record { atoms = length o.activities.items; waiting = o.waiting } };
+
+    ghost invariant = { λ o. IsOrder o.activities.items o.heap.items o.waiting o.places.items o.phases.items };
+}
+
+impl Order {
+    /// All atoms wait.
+    pub fn new(alloc: Global, atoms: u32) -> Result<Order, NoMemory>
+        requires { atoms ≤ 262144 }
+        ensures { IfOk result (λ order. order.atoms ≡ atoms) }
+    {
+        let mut heap = vec![in alloc; 0; atoms as usize]?;
+        let mut places = vec![in alloc; 0; atoms as usize]?;
+        number(&mut heap);
+        number(&mut places);
+        Ok(Order {
+            activities: vec![in alloc; 0; atoms as usize]?,
+            bump: FIRST_BUMP,
+            heap,
+            waiting: atoms,
+            places,
+            phases: vec![in alloc; false; atoms as usize]?,
+        })
+    }
+
+    /// How many atoms there are.
+    pub fn atoms(&self) -> u32
+        ensures { result ≡ self.now.atoms }
+    {
+        self.activities.len() as u32
+    }
+
+    /// Lets all atoms wait.
+    pub fn refill(&mut self)
+        ensures { self.new.atoms ≡ self.old.atoms }
+    {
+        for atom in 0..self.atoms() {
+            self.insert(atom);
+        }
+    }
+
+    /// Takes the most active of the atoms that wait.
+    pub fn pop(&mut self) -> Option<u32>
+        ensures atom { IfSome result (λ atom. atom < self.old.atoms) }
+        ensures fewer { OnSome result (self.new.waiting < self.old.waiting) }
+        ensures atoms { self.new.atoms ≡ self.old.atoms }
+    {
+        if self.waiting == 0 {
+            return None;
+        }
+        let top = self.heap[0];
+        self.waiting -= 1;
+        let last = self.waiting as usize;
+        exchange(&mut self.heap, &mut self.places, 0, last);
+        self.places[top as usize] = ABSENT;
+        sink(&mut self.heap, &mut self.places, &self.activities, last);
+        Some(top)
+    }
+
+    /// Lets the atom wait again.
+    pub fn insert(&mut self, atom: u32)
+        requires { atom < self.old.atoms }
+        ensures { self.new.atoms ≡ self.old.atoms }
+    {
+        let last = self.waiting as usize;
+        if self.places[atom as usize] == ABSENT && last < self.heap.len() {
+            self.heap[last] = atom;
+            self.places[atom as usize] = self.waiting;
+            self.waiting += 1;
+            raise(&mut self.heap, &mut self.places, &self.activities, last);
+        }
+    }
+
+    /// Makes the atom more active.
+    pub fn bump(&mut self, atom: u32)
+        requires { atom < self.old.atoms }
+        ensures { self.new.atoms ≡ self.old.atoms }
+    {
+        let activity = self.activities[atom as usize].saturating_add(self.bump);
+        self.activities[atom as usize] = activity;
+        if activity > CEILING {
+            scale_down(&mut self.activities);
+            self.bump = (self.bump >> SCALE).max(1);
+        }
+        let place = self.places[atom as usize];
+        if place < self.waiting {
+            raise(
+                &mut self.heap,
+                &mut self.places,
+                &self.activities,
+                place as usize,
+            );
+        }
+    }
+
+    /// Makes later bumps count more.
+    pub fn decay(&mut self)
+        ensures { self.new.atoms ≡ self.old.atoms }
+    {
+        self.bump = self.bump.saturating_add(self.bump / 16 + 1);
+    }
+
+    /// The value that the atom had last.
+    pub fn phase(&self, atom: u32) -> bool
+        requires { atom < self.now.atoms }
+    {
+        self.phases[atom as usize]
+    }
+
+    /// Keeps the atom's value for its next decision.
+    pub fn keep_phase(&mut self, atom: u32, value: bool)
+        requires { atom < self.old.atoms }
+        ensures { self.new.atoms ≡ self.old.atoms }
+    {
+        self.phases[atom as usize] = value;
+    }
+}
+
+/// An unassigned literal, or none where each atom has a value. `ordered` asks for the least unassigned atom, false.
+pub fn choose(order: &mut Order, trail: &Trail, ordered: bool) -> Option<u32>
+    requires order { order.old.atoms ≡ trail.now.atoms }
+    requires few { trail.now.atoms ≤ 262144 }
+    ensures order { order.new.atoms ≡ order.old.atoms }
+    ensures code { IfSome result (λ literal. literal < 2 * trail.now.atoms) }
+    ensures unassigned { IfSome result (IsUnassigned trail.now.steps) }
+    ensures total { result ≡ None → IsTotal trail.now.atoms trail.now.steps }
+{
+    if !ordered {
+        let active = most_active(order, trail);
+        if active.is_some() {
+            return active;
+        }
+    }
+    first_unassigned(order, trail)
+}
+
+/// The most active unassigned atom that waits, with the value that it had last.
+fn most_active(order: &mut Order, trail: &Trail) -> Option<u32>
+    requires order { order.old.atoms ≡ trail.now.atoms }
+    requires few { trail.now.atoms ≤ 262144 }
+    ensures order { order.new.atoms ≡ order.old.atoms }
+    ensures code { IfSome result (λ literal. literal < 2 * trail.now.atoms) }
+    ensures unassigned { IfSome result (IsUnassigned trail.now.steps) }
+{
+    while let Some(atom) = order.pop() {
+        if is_unassigned(trail, atom) {
+            let negative = 2 * atom;
+            return Some(if order.phase(atom) {
+                negative + 1
+            } else {
+                negative
+            });
+        }
+    }
+    None
+}
+
+/// The negation of the least unassigned atom. Every atom is looked at where all have a value, as for a final answer.
+fn first_unassigned(order: &Order, trail: &Trail) -> Option<u32>
+    requires order { order.now.atoms ≡ trail.now.atoms }
+    requires few { trail.now.atoms ≤ 262144 }
+    ensures code { IfSome result (λ literal. literal < 2 * trail.now.atoms) }
+    ensures unassigned { IfSome result (IsUnassigned trail.now.steps) }
+    ensures total { result ≡ None → IsTotal trail.now.atoms trail.now.steps }
+{
+    for atom in 0..order.atoms() {
+        if is_unassigned(trail, atom) {
+            return Some(2 * atom);
+        }
+    }
+    None
+}
+
+/// Whether the atom has no value.
+fn is_unassigned(trail: &Trail, atom: u32) -> bool
+    requires atom { atom < trail.now.atoms }
+    requires few { trail.now.atoms ≤ 262144 }
+    ensures unassigned { IsTrue result → IsUnassigned trail.now.steps (2 * atom) }
+    ensures assigned { result ≡ false → IsPlaced trail.now.steps (2 * atom + 1) ⊎ IsPlaced trail.now.steps (2 * atom) }
+{
+    match trail.value(2 * atom + 1) {
+        Some(_) => false,
+        None => true,
+    }
+}
+
+/// Writes each place's number.
+fn number(numbers: &mut [u32])
+    requires { length numbers.old ≤ 262144 }
+    ensures { AreCodes (length numbers.new) numbers.new }
+{
+    for place in 0..numbers.len() {
+        numbers[place] = place as u32;
+    }
+}
+
+/// Divides all activities.
+fn scale_down(activities: &mut [u64]) {
+    for activity in activities.iter_mut() {
+        *activity >>= SCALE;
+    }
+}
+
+/// Exchanges two atoms of the heap.
+fn exchange(heap: &mut [u32], places: &mut [u32], first: usize, second: usize)
+    requires few { length heap.old ≤ 262144 }
+    requires first { first < length heap.old }
+    requires second { second < length heap.old }
+    requires codes { AreCodes (length places.old) heap.old }
+    ensures { AreCodes (length places.new) heap.new }
+{
+    let upper = heap[first];
+    let lower = heap[second];
+    heap[first] = lower;
+    heap[second] = upper;
+    places[lower as usize] = first as u32;
+    places[upper as usize] = second as u32;
+}
+
+/// Moves an atom of the heap up to its place.
+fn raise(heap: &mut [u32], places: &mut [u32], activities: &[u64], start: usize)
+    requires few { length heap.old ≤ 262144 }
+    requires start { start < length heap.old }
+    requires codes { AreCodes (length places.old) heap.old }
+    requires activities { length activities.now ≡ length places.old }
+    ensures { AreCodes (length places.new) heap.new }
+{
+    let mut at = start;
+    while at > 0 {
+        let above = (at - 1) / 2;
+        if activities[heap[above] as usize] >= activities[heap[at] as usize] {
+            return;
+        }
+        exchange(heap, places, at, above);
+        at = above;
+    }
+}
+
+/// Moves the top of the heap, of which the first `end` atoms wait, down to its place.
+fn sink(heap: &mut [u32], places: &mut [u32], activities: &[u64], end: usize)
+    requires few { length heap.old ≤ 262144 }
+    requires end { end ≤ length heap.old }
+    requires codes { AreCodes (length places.old) heap.old }
+    requires activities { length activities.now ≡ length places.old }
+    ensures { AreCodes (length places.new) heap.new }
+{
+    let mut at = 0;
+    while 2 * at + 1 < end {
+        let below = more_active(heap, activities, 2 * at + 1, end);
+        if activities[heap[at] as usize] >= activities[heap[below] as usize] {
+            return;
+        }
+        exchange(heap, places, at, below);
+        at = below;
+    }
+}
+
+/// The more active of two neighbours below one atom.
+fn more_active(heap: &[u32], activities: &[u64], left: usize, end: usize) -> usize
+    requires left { left < end }
+    requires end { end ≤ length heap.now }
+    requires few { length heap.now ≤ 262144 }
+    requires codes { AreCodes (length activities.now) heap.now }
+    ensures within { result < end }
+    ensures below { left ≤ result }
+{
+    let right = left + 1;
+    if right < end && activities[heap[right] as usize] > activities[heap[left] as usize] {
+        right
+    } else {
+        left
+    }
+}

@@ -1,0 +1,202 @@
+//! The calls of a search.
+
+ghost use Rattle.std.specs.Prelude.{◌≡◌, ◌≢◌, ℕ, ◌+◌, ◌*◌, ◌<◌, ◌≤◌, ◌^◌, List, [], length, Ok, Err, IfOk, OnOk, OnErr};
+ghost use Rattle.asp_search.specs.Meaning.{SameMeaning};
+ghost use Rattle.asp_search.specs.Marks.{AreCodes};
+ghost use Rattle.asp_search.specs.Cores.{IsCore};
+ghost use Rattle.asp_search.specs.Found.{assignment_of};
+ghost use Rattle.asp_search.specs.State.{IsFresh, Adds, AreDifferent, GoesOn, IsFound, HasFound};
+
+use crate::NoMemory;
+use crate::clause::add_clause;
+use crate::decide::Order;
+use crate::fault::SearchFault;
+use crate::marks::Marks;
+use crate::outcome::Outcome;
+use crate::solver::{Solver, is_true};
+use crate::stage::Stage;
+use crate::steps::run;
+use asp_clauses::{Book, Trail};
+use std::alloc::Global;
+use std::marker::Model;
+
+/// A search for an assignment that satisfies clauses under assumptions.
+///
+/// | stage | call | answer | new stage |
+/// |---|---|---|---|
+/// | any | `begin` | ok | `Begun` |
+/// | `Found` | `add` | ok | `Extended` |
+/// | another | `add` | ok | the same |
+/// | `Begun`, `Extended` | `next` | `Found` | `Found` |
+/// | `Begun`, `Extended` | `next` | `Core` | `Begun` |
+/// | `Begun`, `Extended` | `next` | spent, no memory | `Spent`, `NoMemory` |
+/// | `Found`, `Spent`, `NoMemory` | `next` | the same again | the same |
+#[derive(Drop)]
+pub struct Search {
+    solver: Solver,
+    budget: u64,
+    stage: Stage,
+}
+
+impl Model for Search {
+    ghost use Rattle.asp_search.specs.State.{SearchState};
+
+    ghost Value = { SearchState };
+
+    ghost use Rattle.asp_search.specs.SearchFields.{state_of, IsSound};
+
+    ghost view = { state_of };
+
+    ghost invariant = { IsSound };
+}
+
+impl Search {
+    /// A search without clauses over the atoms below `atoms`, each run of which places at most `budget` literals.
+    /// `NoMemory`: memory was refused.
+    pub fn new(alloc: Global, atoms: u32, budget: u64) -> Result<Search, NoMemory>
+        requires { atoms ≤ 262144 }
+        ensures { IfOk result (λ search. IsFresh search atoms budget) }
+    {
+        let book = Book::new(alloc, atoms)?;
+        let trail = Trail::new(alloc, atoms, budget)?;
+        let order = Order::new(alloc, atoms)?;
+        let marks = Marks::new(alloc, 2 * atoms)?;
+        let solver = Solver {
+            book,
+            trail,
+            order,
+            marks,
+            learned: Vec::new(alloc),
+            assumed: Vec::new(alloc),
+            cursor: 0,
+            decided: 0,
+        };
+        Ok(Search {
+            solver,
+            budget,
+            stage: Stage::New,
+        })
+    }
+
+    /// Adds a clause: at least one of its literals has to be true. A literal may stand in it twice, and so may both
+    /// literals of an atom; the empty clause is never satisfied. `NoMemory`: memory was refused, or the clauses' numbers are
+    /// used up; the search is as it was.
+    pub fn add(&mut self, alloc: Global, clause: &[u32]) -> Result<(), NoMemory>
+        requires { AreCodes (2 * self.old.atoms) clause.now }
+        ensures added { OnOk result (Adds self.old self.new clause.now) }
+        ensures unchanged { OnErr result (self.new ≡ self.old) }
+    {
+        add_clause(&mut self.solver, alloc, clause)?;
+        if self.stage == Stage::Found {
+            self.stage = Stage::Extended;
+        }
+        Ok(())
+    }
+
+    /// Begins a search under assumptions. What was learned before stays. `NoMemory`: memory was refused; the search is as
+    /// it was.
+    pub fn begin(&mut self, alloc: Global, assume: &[u32]) -> Result<(), NoMemory>
+        requires codes { AreCodes (2 * self.old.atoms) assume.now }
+        requires different { AreDifferent assume.now }
+        ensures begun { OnOk result
+            (self.new ≡ record self.old { count = 0; assumed = assume.now; trail = []; stage = Stage.Begun }) }
+        ensures unchanged { OnErr result (self.new ≡ self.old) }
+    {
+        let assumed = Vec::from_slice(alloc, assume)?;
+        self.stage = Stage::Begun;
+        self.solver.trail.reset();
+        self.solver.order.refill();
+        self.solver.assumed = assumed;
+        self.solver.cursor = 0;
+        Ok(())
+    }
+
+    /// Searches on. After a fault the same fault is answered until the next `begin`, and after `Found` the same until
+    /// a clause is added. `Spent`: as many literals were placed since `begin` as the budget allows. `NoMemory`: memory was
+    /// refused; added clauses stay. `ordered` decides the first unassigned atom, false.
+    pub fn next(&mut self, alloc: Global, ordered: bool) -> Result<Outcome, SearchFault>
+        requires { self.old.stage ≢ Stage.New }
+        ensures goes_on { GoesOn self.old self.new }
+        ensures found { result ≡ Ok Outcome.Found → IsFound self.new }
+        ensures core { (core : List ℕ) → result ≡ Ok (Outcome.Core core) → IsCore self.old.clauses self.old.assumed core }
+        ensures spent { result ≡ Err SearchFault.Spent → self.new.count ≡ self.new.budget }
+        ensures few { self.new.count < 3 ^ self.new.atoms }
+
+        // The stage after each answer.
+        ensures stage_found { result ≡ Ok Outcome.Found → self.new.stage ≡ Stage.Found }
+        ensures stage_core { (core : List ℕ) → result ≡ Ok (Outcome.Core core) → self.new.stage ≡ Stage.Begun }
+        ensures stage_spent { result ≡ Err SearchFault.Spent → self.new.stage ≡ Stage.Spent }
+        ensures stage_no_memory { result ≡ Err SearchFault.NoMemory → self.new.stage ≡ Stage.NoMemory }
+
+        // What comes again.
+        ensures found_again { self.old.stage ≡ Stage.Found → (result ≡ Ok Outcome.Found) × (self.new ≡ self.old) }
+        ensures spent_again { self.old.stage ≡ Stage.Spent → (result ≡ Err SearchFault.Spent) × (self.new ≡ self.old) }
+        ensures no_memory_again { self.old.stage ≡ Stage.NoMemory
+            → (result ≡ Err SearchFault.NoMemory) × (self.new ≡ self.old) }
+    {
+        match self.stage {
+            Stage::Found => Ok(Outcome::Found),
+            Stage::Spent => Err(SearchFault::Spent),
+            Stage::NoMemory => Err(SearchFault::NoMemory),
+            Stage::New | Stage::Begun | Stage::Extended => {
+                let outcome = run(&mut self.solver, alloc, ordered);
+                self.stage = stage_after(&outcome);
+                outcome
+            }
+        }
+    }
+
+    /// The value of an atom in the assignment that was found.
+    pub fn value(&self, atom: u32) -> bool
+        requires atom { atom < self.now.atoms }
+        requires found { HasFound self.now }
+        ensures { result ≡ assignment_of self.now.trail atom }
+    {
+        is_true(&self.solver.trail, 2 * atom + 1)
+    }
+
+    /// How many literals a run may place.
+    pub fn budget(&self) -> u64
+        ensures { result ≡ self.now.budget }
+    {
+        self.budget
+    }
+
+    /// How many clauses are kept: the added ones, but for those with both literals of an atom, and the learned ones.
+    pub fn clauses(&self) -> u32
+        ensures { result ≡ length self.now.clauses }
+    {
+        self.solver.book.len()
+    }
+
+    /// How many literals were placed since the search began.
+    pub fn placements(&self) -> u64
+        ensures { result ≡ self.now.count }
+    {
+        self.solver.trail.count()
+    }
+
+    /// How many literals were decided since the search was made.
+    pub fn decisions(&self) -> u64
+        ensures { result ≡ self.now.decisions }
+    {
+        self.solver.decided
+    }
+}
+
+/// The stage after a run.
+fn stage_after(outcome: &Result<Outcome, SearchFault>) -> Stage
+    ensures found { outcome.now ≡ Ok Outcome.Found → result ≡ Stage.Found }
+    ensures core { (core : List ℕ) → outcome.now ≡ Ok (Outcome.Core core) → result ≡ Stage.Begun }
+    ensures spent { outcome.now ≡ Err SearchFault.Spent → result ≡ Stage.Spent }
+    ensures no_memory { outcome.now ≡ Err SearchFault.NoMemory → result ≡ Stage.NoMemory }
+    ensures only_found { result ≡ Stage.Found → outcome.now ≡ Ok Outcome.Found }
+    ensures only_spent { result ≡ Stage.Spent → outcome.now ≡ Err SearchFault.Spent }
+{
+    match outcome {
+        Ok(Outcome::Found) => Stage::Found,
+        Ok(Outcome::Core(_)) => Stage::Begun,
+        Err(SearchFault::Spent) => Stage::Spent,
+        Err(SearchFault::NoMemory) => Stage::NoMemory,
+    }
+}
