@@ -7,9 +7,7 @@ pub mod Tokens
 pub mod Grammar
 pub mod TextRefusals
 pub mod Constants
-pub mod PlainTokens
 pub mod PlainPrograms
-pub mod PlainText
 pub mod Bases
 pub mod Instances
 pub mod Games

@@ -33,9 +33,8 @@ abbrev pub form_text : Form → List ℕ
 form_text Strong = codes "strong negation"
 form_text Bounds = codes "choice bounds"
 
--- the line of a refused text; want of memory has none, and texts that are plain are spoken of no more
+-- the line of a refused text; want of memory has none
 abbrev pub text_fault_line : TextFault → List ℕ
-text_fault_line text.NotPlain = []
 text_fault_line (text.BadByte place) = at_place (codes "bad byte") place
 text_fault_line (text.BadNumber place) = at_place (codes "bad number") place
 text_fault_line (text.OpenComment place) = at_place (codes "open comment") place

@@ -14,9 +14,6 @@ pub enum Form {
 /// Why a text gives no program. Places are byte offsets from 0.
 #[derive(Debug, Drop, Error)]
 pub enum TextFault {
-    /// The bytes are not a plain text.
-    #[error("not yet")]
-    NotPlain,
     /// The byte there begins no token, comment or blank.
     #[error("bad byte at {0}")]
     BadByte(u32),

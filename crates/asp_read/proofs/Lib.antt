@@ -1,9 +1,2 @@
-pub mod Fronts
-pub mod Cuts
-pub mod Scans
-pub mod TokenLoop
-pub mod Bodies
-pub mod Marks
-pub mod Rules
-pub mod Gathered
-pub mod Texts
+mod Lengths
+mod Verdicts

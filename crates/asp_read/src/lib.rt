@@ -1,16 +1,14 @@
-//! The reader of plain texts: it answers the one program that the bytes are a text of, or that there is none.
+//! The reader: it answers the one program that the bytes are a text of, or the one refusal of the text.
 //!
-//! In reading order: `scan` (the first token of some bytes), `tokens` (the tokens of a text), `statements` (the rules
-//! that tokens spell), `base` (the names of rules), `text` (the whole text).
+//! In reading order: `places` (which token may come where, and which place is behind it), `parts` (what a token adds to
+//! the program), `refusals` (the refusal of a token that can't come), `text` (the whole text).
 #![tactic(auto)]
 
-mod base;
-mod scan;
-mod statements;
+mod parts;
+mod places;
+mod refusals;
 mod text;
-mod tokens;
 
-pub use base::names;
 pub use text::read;
 
 #[cfg(test)]

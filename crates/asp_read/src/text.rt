@@ -1,81 +1,170 @@
 //! The whole text.
-ghost use Rattle.std.specs.Prelude.{
-  ℕ,
-  ◌≡◌,
-  ◌≤◌,
-  ◌∷◌,
-  [],
-  List,
-  length,
-  IfOk,
-  IfSome,
-  IfNone,
-  IfErr,
-  IsErrOf,
-};
-ghost use Rattle.asp_defs.specs.declared.faults.TextFault.TheVariants.{NotPlain};
-ghost use Rattle.asp_defs.specs.declared.syntax.Program.{Program};
-ghost use Rattle.asp_defs.specs.PlainTokens.{PlainToken, ExistsToken};
-ghost use Rattle.asp_defs.specs.PlainPrograms.{one_level};
-ghost use Rattle.asp_defs.specs.PlainText.{IsPlainText, most_bytes};
-ghost use Rattle.asp_read.specs.Reads.{IsReadFault};
-ghost use Rattle.asp_read.specs.Tokens.{tokens_of};
+ghost use Rattle.std.specs.Prelude.{◌≡◌, ◌≢◌, ◌+◌, ◌≤◌, ◌<◌, ◌⊎◌, length, map, slice_range, IfOk, IfErr, OnOk};
+ghost use Rattle.asp_defs.specs.Grammar.{IsText};
+ghost use Rattle.asp_defs.specs.TextRefusals.{IsRefused};
+ghost use Rattle.asp_lex.specs.Slices.{token_of, placed, StandBetween};
+ghost use Rattle.asp_grammar.specs.Machine as machine;
 
-use crate::base::{MOST_NAMES, names};
-use crate::scan::Token;
-use crate::statements::rules;
-use crate::tokens::tokens;
-use asp_defs::{List, NoMemory, Part, Program, Quant, Rule, TextFault};
+use crate::parts::{add, no_atom, no_name};
+use crate::places::next_place;
+use crate::refusals::refusal_at;
+use asp_defs::{Head, List, NoMemory, Op, Part, Program, Quant, Term, TextFault};
+use asp_grammar::{Builder, Place, Tree};
+use asp_lex::{Token, lex};
 use std::alloc::Global;
 
-/// The tokens behind the directive that tokens begin with.
-fn behind_directive<'a, 'b>(tokens: &'a [Token<'b>]) -> Option<&'a [Token<'b>]>
-    ensures found { IfSome result (λ rest. tokens_of tokens.now ≡ ExistsToken ∷ tokens_of rest.now) }
-    ensures none { IfNone result ((ts : List PlainToken) → ¬ (tokens_of tokens.now ≡ ExistsToken ∷ ts)) }
+/// The tree of no tokens.
+fn no_tree(alloc: Global) -> Tree
+    ensures { result ≡ machine.start.tree }
 {
-    match tokens.split_first() {
-        Some((Token::Exists, rest)) => Some(rest),
-        _ => None,
+    Tree {
+        levels: List::new(alloc),
+        quant: Quant::Exists,
+        in_constraint: false,
+        rules: List::new(alloc),
+        head: Head::Disj(List::new(alloc)),
+        atoms: List::new(alloc),
+        elements: List::new(alloc),
+        element: no_atom(alloc),
+        literals: List::new(alloc),
+        name: no_name(alloc),
+        args: List::new(alloc),
+        left: Term::Int(0),
+        op: Op::Eq,
+        low: 0,
+        anonymous: 0,
     }
 }
 
-/// The program whose one level has these rules.
-fn one_level(alloc: Global, rules: List<Rule>) -> Result<Program, NoMemory>
-    ensures { IfOk result (λ program. program ≡ one_level rules) }
-{
-    let mut levels = List::new(alloc);
-    let only = Part {
-        quant: Quant::Exists,
-        rules,
-    };
-    levels.push(only)?;
-    Ok(Program {
-        levels,
-        cons: List::new(alloc),
-    })
-}
-
-/// The program that the bytes are a plain text of.
+/// Takes one token more.
 ///
 /// # Errors
 ///
-/// `NotPlain` where the bytes are a plain text of no program, and `NoMemory` where memory runs out.
-pub fn read(alloc: Global, bytes: &[u8]) -> Result<Program, TextFault>
-    requires { length bytes.now ≤ most_bytes }
-    ensures text { IfOk result (λ program. IsPlainText bytes.now program) }
-    ensures only { IfOk result (λ program. (other : Program) → IsPlainText bytes.now other → other ≡ program) }
-    ensures faults { IfErr result IsReadFault }
-    ensures refused { IsErrOf result NotPlain → (program : Program) → ¬ IsPlainText bytes.now program }
+/// The refusal of the token, if it can't come, and `NoMemory`. The builder is then of no use.
+fn advance(builder: &mut Builder, alloc: Global, token: Token, text: &[u8]) -> Result<(), TextFault>
+    requires { builder.old.tree.anonymous < u32.MAX }
+    ensures moved { OnOk result (machine.step builder.old (token_of token.kind text.now) ≡ Some builder.new) }
+    ensures stuck { IfErr result (λ fault. fault ≢ TextFault.NoMemory →
+        machine.step builder.old (token_of token.kind text.now) ≡ None) }
+    ensures refusal { IfErr result (λ fault. fault ≢ TextFault.NoMemory →
+        fault ≡ machine.refusal_at builder.old.place (token_of token.kind text.now) token.from) }
+    ensures counted { OnOk result (builder.new.tree.anonymous ≤ builder.old.tree.anonymous + 1) }
 {
-    let tokens = tokens(alloc, bytes)?;
-    let Some(statements) = behind_directive(tokens.as_slice()) else {
-        return Err(TextFault::NotPlain);
-    };
-    let rules = rules(alloc, statements)?;
-    let names = names(alloc, rules.as_slice())?;
-    if names.len() > MOST_NAMES {
-        return Err(TextFault::NotPlain);
+    let place = builder.place;
+    match next_place(builder.tree.in_constraint, place, token.kind, text) {
+        Some(next) => {
+            add(&mut builder.tree, alloc, place, token.kind, text)?;
+            builder.place = next;
+            Ok(())
+        }
+        None => Err(refusal_at(place, token.kind, text, token.from)),
     }
-    let program = one_level(alloc, rules)?;
-    Ok(program)
+}
+
+/// The bytes of a token.
+fn text_of(bytes: &[u8], token: Token) -> &[u8]
+    requires begins { token.from ≤ token.to }
+    requires ends { token.to ≤ length bytes.now }
+    ensures { result.now ≡ slice_range bytes.now token.from token.to }
+{
+    &bytes[token.from as usize..token.to as usize]
+}
+
+/// What the tokens build, where each may come behind those before it.
+///
+/// # Errors
+///
+/// The refusal of the first token that can't come, and `NoMemory`.
+fn build(alloc: Global, bytes: &[u8], tokens: &[Token]) -> Result<Builder, TextFault>
+    requires long { length bytes.now ≤ 1048576 }
+    requires sliced { StandBetween 0 (length bytes.now) tokens.now }
+    ensures built { IfOk result (λ builder.
+        machine.answer_from machine.start (map (placed bytes.now) tokens.now) ≡ machine.end_answer (machine.finish builder)) }
+    ensures refused { IfErr result (λ fault. fault ≢ TextFault.NoMemory →
+        machine.answer_from machine.start (map (placed bytes.now) tokens.now) ≡ Err fault) }
+{
+    let mut builder = Builder {
+        place: Place::Start,
+        tree: no_tree(alloc),
+    };
+    for token in tokens {
+        let text = text_of(bytes, *token);
+        advance(&mut builder, alloc, *token, text)?;
+    }
+    Ok(builder)
+}
+
+/// The program of a tree whose statements are all whole.
+fn program_of(alloc: Global, tree: Tree) -> Result<Program, NoMemory>
+    ensures { IfOk result (λ program. program ≡ machine.program_of tree) }
+{
+    let Tree {
+        mut levels,
+        quant,
+        in_constraint,
+        rules,
+        ..
+    } = tree;
+    if in_constraint {
+        return Ok(Program {
+            levels,
+            cons: rules,
+        });
+    }
+    levels.push(Part { quant, rules })?;
+    let cons = List::new(alloc);
+    Ok(Program { levels, cons })
+}
+
+/// The program that was built, if its last statement is whole.
+fn finish(alloc: Global, builder: Builder) -> Result<Program, TextFault>
+    ensures whole { IfOk result (λ program. machine.end_answer (machine.finish builder) ≡ Ok program) }
+    ensures open { IfErr result (λ fault. fault ≢ TextFault.NoMemory →
+        machine.end_answer (machine.finish builder) ≡ Err fault) }
+{
+    let Builder { place, tree } = builder;
+    match place {
+        Place::Statement => Ok(program_of(alloc, tree)?),
+        _ => Err(TextFault::Unfinished),
+    }
+}
+
+/// The program of a text's tokens.
+///
+/// # Errors
+///
+/// The refusal of the tokens, and `NoMemory`.
+fn parse(alloc: Global, bytes: &[u8], tokens: &[Token]) -> Result<Program, TextFault>
+    requires long { length bytes.now ≤ 1048576 }
+    requires sliced { StandBetween 0 (length bytes.now) tokens.now }
+    ensures program { IfOk result (λ program. machine.answer (map (placed bytes.now) tokens.now) ≡ Ok program) }
+    ensures refusal { IfErr result (λ fault. fault ≢ TextFault.NoMemory →
+        machine.answer (map (placed bytes.now) tokens.now) ≡ Err fault) }
+{
+    if tokens.is_empty() {
+        return Err(TextFault::NoLevel);
+    }
+    let builder = build(alloc, bytes, tokens)?;
+    finish(alloc, builder)
+}
+
+/// The program that the bytes are a text of.
+///
+/// # Errors
+///
+/// The one refusal of the text: those of the lexer come first (`BadByte`, `BadNumber`, `OpenComment`), then `NoLevel`
+/// where there is no token, that of the first token with which the tokens so far begin no program (`BeforeLevel`,
+/// `UnknownDirective`, `AfterConstraint`, `NotYet`, `Unexpected`), or `Unfinished` where there is none. `NoMemory` where
+/// memory ran out.
+pub fn read(alloc: Global, bytes: &[u8]) -> Result<Program, TextFault>
+    requires { length bytes.now ≤ 1048576 }
+    ensures text { IfOk result (λ program. IsText bytes.now program) }
+    ensures refused { IfErr result (λ fault. fault ≢ TextFault.NoMemory → IsRefused bytes.now fault) }
+    ensures only { (program : Program) → IsText bytes.now program →
+        (result ≡ Ok program) ⊎ (result ≡ Err TextFault.NoMemory) }
+    ensures first { (fault : TextFault) → IsRefused bytes.now fault →
+        (result ≡ Err fault) ⊎ (result ≡ Err TextFault.NoMemory) }
+{
+    let tokens = lex(alloc, bytes)?;
+    parse(alloc, bytes, tokens.as_slice())
 }

@@ -1,7 +1,11 @@
 pub mod Atoms
-pub mod Plain
+pub mod Taken
+pub mod Refusals
+pub mod PlainRules
+pub mod Gathered
 pub mod Written
 pub mod Models
 pub mod Subsets
 pub mod Minimal
 pub mod Repeated
+pub mod Unique

@@ -1,41 +1,85 @@
--- What the sink holds where the words are refused.
-use Rattle.std.proofs.Common.{◌≡◌, ℕ, List, refl, sym, ap, ◌∙◌, subst, inl, inr, ◌⊎◌}
-use Rattle.std.specs.Prelude.{Option, Some, None}
+-- What the sink holds at the end of a run.
+use Rattle.std.proofs.Common.{◌≡◌, ℕ, Bool, true, false, List, refl, sym, ap, ◌∙◌, subst, inl, inr, ◌⊎◌}
+use Rattle.std.specs.Prelude.{Option, Some, None, Result, Ok, Err, IsTrue}
 use Rattle.std.specs.Io.KnownBytes.{Appends}
 use Rattle.asp_io.specs.Moved.{AppendsPrefix}
+use Rattle.asp_defs.specs.Lines.{word_line}
+use Rattle.asp_defs.proofs.TextRefutations.{clash}
 use Rattle.asp_top.specs.declared.status.Status.{Status}
 use Rattle.asp_top.specs.declared.status.Status.TheVariants.{Words, Write}
-use Rattle.asp_top.specs.Commands.{refused_word, word_line}
-use Rattle.asp_top.specs.Outputs.{BeginsAnswer}
+use Rattle.asp_top.specs.declared.words.Command.{Command}
+use Rattle.asp_top.specs.declared.answer.Answer.{Answer}
+use Rattle.asp_top.specs.declared.answer.Answer.TheVariants.{Refused, Accepted, NotYet, Verdict}
+use Rattle.asp_top.specs.Answers.{IsAnswer}
+use Rattle.asp_top.specs.Commands.{command_of, refused_place, refused_word}
+use Rattle.asp_top.specs.Outputs.{EndsSo, SaysAnswer, BeginsAnswer, RefusesWord}
+use Rattle.asp_top.specs.Replies.{IsRight, status_of, text_of}
+use Rattle.asp_top.specs.Statuses.{is_answered}
 
--- the line of the refused word, or a part of it
-pub line_written : {F G H : Type 0} (before now : Option (List ℕ)) (status : Status) (line : List ℕ)
-    (words : List (List ℕ)) (found place : ℕ)
-    → (Some found ≡ refused_word words) → (line ≡ word_line found) → (refused_word words ≡ Some place)
-    → ((status ≡ Words) × Appends before now line × F) ⊎ ((status ≡ Write) × AppendsPrefix before now line × G × H)
-    → ((status ≡ Words) × Appends before now (word_line place))
-    ⊎ ((status ≡ Write) × AppendsPrefix before now (word_line place))
-line_written before now status line words found place is text told h =
-    let same : found ≡ place = let both : Some found ≡ Some place = is ∙ told in cc in
-    let e : line ≡ word_line place = text ∙ ap word_line same in
-    elim h [
-      | inl w ↦ inl (w.0, subst (λ bs. Appends before now bs) e w.1)
-      | inr w ↦ inr (w.0, subst (λ bs. AppendsPrefix before now bs) e w.1)
+-- what is right to say is an answer of the run
+is_answer : (words : List (List ℕ)) (command : Command) (bytes : List ℕ) (answer : Answer) → command_of words ≡ Ok command
+    → IsRight command bytes answer → IsAnswer words bytes (status_of answer) (text_of answer)
+is_answer words command bytes (Refused line) read h = inl ((command, read), h)
+is_answer words command bytes (Accepted p) read (is, text) = (read ∙ ap Ok is, (p, text, refl))
+is_answer words command bytes NotYet read (is, h) = inr (read ∙ ap Ok is, h, refl)
+is_answer words command bytes (Verdict true) read (is, h) = (read ∙ ap Ok is, h, refl)
+is_answer words command bytes (Verdict false) read (is, h) = (read ∙ ap Ok is, h, refl)
+
+-- an answer is no fault
+answered : (answer : Answer) → is_answered (status_of answer) ≡ true
+answered (Refused line) = refl
+answered (Accepted p) = refl
+answered NotYet = refl
+answered (Verdict true) = refl
+answered (Verdict false) = refl
+
+module _ (before now : Option (List ℕ)) (faults_before faults_now : ℕ) (ending : Status) (words : List (List ℕ)) where
+  module _ (command : Command) (bytes : List ℕ) (answer : Answer) (read : command_of words ≡ Ok command)
+      (right : IsRight command bytes answer)
+      (ends : EndsSo before now faults_before faults_now ending (status_of answer) (text_of answer)) where
+    -- the answer, where it was written
+    pub says_answer : IsTrue (is_answered ending) → SaysAnswer words bytes ending before now
+    says_answer written = elim ends [
+      | inl h ↦ (
+        text_of answer,
+        subst (λ status. IsAnswer words bytes status (text_of answer)) (sym h.0)
+            (is_answer words command bytes answer read right),
+        h.1,
+      )
+      | inr h ↦ clash (sym (ap is_answered h.0) ∙ written)
     ]
 
--- a part of the line of the refused word is a part of the answer
-pub line_part : {F G H : Type 0} (before now : Option (List ℕ)) (status : Status) (line : List ℕ)
-    (words : List (List ℕ)) (bytes : List ℕ) (found : ℕ)
-    → (Some found ≡ refused_word words) → (line ≡ word_line found) → status ≡ Write
-    → ((status ≡ Words) × Appends before now line × F) ⊎ ((status ≡ Write) × AppendsPrefix before now line × G × H)
-    → BeginsAnswer words bytes before now
-line_part before now status line words bytes found is text write h =
-    elim h [
-      | inl w ↦ let no_such : Words ≡ Write = sym w.0 ∙ write in cc
-      | inr w ↦
-          (Words, word_line found, (found, sym is, refl), subst (λ bs. AppendsPrefix before now bs) text w.1)
+    -- the beginning of the answer, where the sink failed
+    pub begins_answer : ending ≡ Write → BeginsAnswer words bytes before now
+    begins_answer failed = elim ends [
+      | inl h ↦ clash (ap is_answered (sym failed ∙ h.0) ∙ answered answer)
+      | inr h ↦ (status_of answer, text_of answer, is_answer words command bytes answer read right, h.1)
     ]
 
--- a word that can't be read is found where there is one
-pub not_both : (words : List (List ℕ)) (found : ℕ) → (Some found ≡ refused_word words) → (refused_word words ≡ None) → ⊥
-not_both words found is none = let both : Some found ≡ None = is ∙ none in cc
+  module _ (found : ℕ) (refused : command_of words ≡ Err found)
+      (ends : EndsSo before now faults_before faults_now ending Words (word_line found)) where
+    -- the line of the refused word, or a part of it
+    pub refuses_word : (place : ℕ) → refused_word words ≡ Some place → RefusesWord place ending before now
+    refuses_word place told =
+        let both : Some found ≡ Some place = sym (ap refused_place refused) ∙ told in
+        let same : found ≡ place = cc in
+        elim ends [
+          | inl h ↦ inl (h.0, subst (λ n. Appends before now (word_line n)) same h.1)
+          | inr h ↦ inr (h.0, subst (λ n. AppendsPrefix before now (word_line n)) same h.1)
+        ]
+
+    pub says_word : (bytes : List ℕ) → IsTrue (is_answered ending) → SaysAnswer words bytes ending before now
+    says_word bytes written = elim ends [
+      | inl h ↦ (
+        word_line found,
+        subst (λ status. IsAnswer words bytes status (word_line found)) (sym h.0) (found, refused, refl),
+        h.1,
+      )
+      | inr h ↦ clash (sym (ap is_answered h.0) ∙ written)
+    ]
+
+    pub begins_word : (bytes : List ℕ) → ending ≡ Write → BeginsAnswer words bytes before now
+    begins_word bytes failed = elim ends [
+      | inl h ↦ clash (ap is_answered (sym failed ∙ h.0))
+      | inr h ↦ (Words, word_line found, (found, refused, refl), h.1)
+    ]

@@ -1,18 +1,27 @@
 -- The words of a command, and which of them can't be read. All definitions are transparent.
-use Rattle.std.specs.Prelude.{ℕ, Option, Some, None, if◌then◌else◌, List, [], ◌∷◌, ◌++◌, codes}
+use Rattle.std.specs.Prelude.{ℕ, Option, Some, None, Result, Ok, Err, if◌then◌else◌, List, [], ◌∷◌, codes}
 use Rattle.std.specs.Str.{bytes_eq}
-use Rattle.std.specs.Fmt.{decimal}
+use Rattle.asp_top.specs.declared.words.Command.{Command}
+use Rattle.asp_top.specs.declared.words.Command.TheVariants.{Solve, Check}
 
--- the place, from 1, of the first word behind `solve` that can't be read: `solve` takes none
-abbrev pub refused_option : List (List ℕ) → Option ℕ
-refused_option [] = None
-refused_option (word ∷ words) = Some 2
+-- a command that takes no further word
+abbrev pub alone : Command → List (List ℕ) → Result Command ℕ
+alone command [] = Ok command
+alone command (word ∷ words) = Err 2
 
--- the place, from 1, of the first word that can't be read, where a missing word counts too
+-- the command that words ask for, or the place, from 1, of the first word that can't be read, where a missing word
+-- counts too
+abbrev pub command_of : List (List ℕ) → Result Command ℕ
+command_of [] = Err 1
+command_of (word ∷ words) =
+    if bytes_eq word (codes "solve") then alone Solve words
+    else if bytes_eq word (codes "check") then alone Check words
+    else Err 1
+
+-- the place of the refused word, if any
+abbrev pub refused_place : Result Command ℕ → Option ℕ
+refused_place (Ok command) = None
+refused_place (Err place) = Some place
+
 abbrev pub refused_word : List (List ℕ) → Option ℕ
-refused_word [] = Some 1
-refused_word (word ∷ words) = if bytes_eq word (codes "solve") then refused_option words else Some 1
-
--- the line that names the word
-abbrev pub word_line : ℕ → List ℕ
-word_line place = codes "aspq: word " ++ (decimal place ++ codes " refused\n")
+refused_word words = refused_place (command_of words)

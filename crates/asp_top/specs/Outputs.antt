@@ -1,11 +1,12 @@
 -- What the sink holds at the end of a run, by what it had taken before and now. All definitions are transparent.
-use Rattle.std.specs.Prelude.{◌≡◌, ◌⊎◌, ℕ, Option, List}
+use Rattle.std.specs.Prelude.{◌≡◌, ◌⊎◌, ◌≤◌, ℕ, Option, List}
 use Rattle.std.specs.Io.KnownBytes.{Appends}
+use Rattle.asp_io.specs.Causes.{Rose}
 use Rattle.asp_io.specs.Moved.{AppendsPrefix}
 use Rattle.asp_top.specs.declared.status.Status.{Status}
 use Rattle.asp_top.specs.declared.status.Status.TheVariants.{Words, Write}
+use Rattle.asp_defs.specs.Lines.{word_line}
 use Rattle.asp_top.specs.Answers.{IsAnswer}
-use Rattle.asp_top.specs.Commands.{word_line}
 
 -- the sink grew by what a run of these words over these bytes, which ends with this status, has to say
 abbrev pub SaysAnswer : List (List ℕ) → List ℕ → Status → Option (List ℕ) → Option (List ℕ) → Type 0
@@ -22,3 +23,9 @@ abbrev pub RefusesWord : ℕ → Status → Option (List ℕ) → Option (List �
 RefusesWord place status before now =
     ((status ≡ Words) × Appends before now (word_line place))
     ⊎ ((status ≡ Write) × AppendsPrefix before now (word_line place))
+
+-- the run ends with this status, and the sink grew by the text, or the sink failed and grew by the text's beginning
+abbrev pub EndsSo : Option (List ℕ) → Option (List ℕ) → ℕ → ℕ → Status → Status → List ℕ → Type 0
+EndsSo before now faults_before faults_now ending status text =
+    ((ending ≡ status) × Appends before now text × (faults_now ≡ faults_before))
+    ⊎ ((ending ≡ Write) × AppendsPrefix before now text × Rose faults_before faults_now × (faults_before ≤ faults_now))

@@ -1,16 +1,15 @@
 // The run of the program.
 ghost use Rattle.std.specs.Prelude.{◌≡◌, ◌≢◌, ◌≤◌, ◌⊎◌, ℕ, List, Some, None, IsSome, IsTrue, drop, map, string_bytes};
-ghost use Rattle.std.specs.Io.KnownBytes.{Appends};
 ghost use Rattle.asp_io.specs.Causes.{Rose};
-ghost use Rattle.asp_io.specs.Moved.{AppendsPrefix};
-ghost use Rattle.asp_top.specs.Commands.{refused_word as refused_word_of};
+ghost use Rattle.asp_top.specs.Commands.{refused_word};
 ghost use Rattle.asp_top.specs.Outputs.{SaysAnswer, BeginsAnswer, RefusesWord};
 ghost use Rattle.asp_top.specs.Statuses.{is_answered};
 
-use crate::solve::answer;
+use crate::answer::{refuse_word, say};
+use crate::reply::answer;
 use crate::status::{Ended, Status};
-use crate::words::{refused_word, word_line};
-use asp_io::{ReadFault, Sink, Source, write_all};
+use crate::words::command_of;
+use asp_io::{ReadFault, Sink, Source};
 use std::alloc::Global;
 
 /// Runs the command that the words are, over the bytes of the source, and writes what there is to say to the sink.
@@ -28,10 +27,10 @@ pub fn run_single<S: Source, K: Sink>(
         → SaysAnswer (map string_bytes words.now) bytes result.status (K.taken sink.old) (K.taken sink.new) }
 
     // Words that can't be read are refused, whatever the source is, and no others are.
-    ensures words_refused { (place : ℕ) → refused_word_of (map string_bytes words.now) ≡ Some place
+    ensures words_refused { (place : ℕ) → refused_word (map string_bytes words.now) ≡ Some place
         → RefusesWord place result.status (K.taken sink.old) (K.taken sink.new) }
-    ensures words_only { result.status ≡ Status.Words → IsSome (refused_word_of (map string_bytes words.now)) }
-    ensures words_first { IsSome (refused_word_of (map string_bytes words.now)) → source.new ≡ source.old }
+    ensures words_only { result.status ≡ Status.Words → IsSome (refused_word (map string_bytes words.now)) }
+    ensures words_first { IsSome (refused_word (map string_bytes words.now)) → source.new ≡ source.old }
 
     // A fault has its cause outside, and none is passed over.
     ensures read_fault { result.status ≡ Status.Read → Rose (S.faults source.old) (S.faults source.new) }
@@ -42,7 +41,7 @@ pub fn run_single<S: Source, K: Sink>(
     ensures sink_count { K.faults sink.old ≤ K.faults sink.new }
 
     // The source is read to its end or to a byte more than a text has, unless it fails or memory runs out.
-    ensures all_read { refused_word_of (map string_bytes words.now) ≡ None → result.status ≢ Status.Read
+    ensures all_read { refused_word (map string_bytes words.now) ≡ None → result.status ≢ Status.Read
         → result.status ≢ Status.Memory → (bytes : List ℕ) → S.left source.old ≡ Some bytes
         → S.left source.new ≡ Some (drop 1048577 bytes) }
 
@@ -52,26 +51,13 @@ pub fn run_single<S: Source, K: Sink>(
     ensures part_written { result.status ≡ Status.Write → (bytes : List ℕ) → S.left source.old ≡ Some bytes
         → BeginsAnswer (map string_bytes words.now) bytes (K.taken sink.old) (K.taken sink.new) }
 {
-    let status = match refused_word(words) {
-        Some(place) => say(sink, Status::Words, &word_line(place)),
-        None => match answer(alloc, source) {
-            Ok(answer) => say(sink, answer.status(), answer.text()),
+    let status = match command_of(words) {
+        Err(place) => refuse_word(sink, place),
+        Ok(command) => match answer(alloc, command, source) {
+            Ok(answer) => say(sink, &answer),
             Err(ReadFault::Failed) => Status::Read,
             Err(ReadFault::NoMemory) => Status::Memory,
         },
     };
     Ended { status }
-}
-
-/// Writes the text, and answers the status, or that the sink failed.
-fn say<K: Sink>(sink: &mut K, status: Status, text: &[u8]) -> Status
-    ensures { ((result ≡ status) × Appends (K.taken sink.old) (K.taken sink.new) text.now
-        × (K.faults sink.new ≡ K.faults sink.old))
-        ⊎ ((result ≡ Status.Write) × AppendsPrefix (K.taken sink.old) (K.taken sink.new) text.now
-        × Rose (K.faults sink.old) (K.faults sink.new) × (K.faults sink.old ≤ K.faults sink.new)) }
-{
-    match write_all(sink, text) {
-        Ok(()) => status,
-        Err(_) => Status::Write,
-    }
 }

@@ -1,20 +1,26 @@
-use Rattle.std.proofs.Common.{map, string_bytes}
-use Rattle.asp_top.proofs.Written.{line_written, line_part, not_both}
+use Rattle.std.proofs.Common.{map, string_bytes, sym}
+use Rattle.asp_top.proofs.Written.{refuses_word, begins_word, says_answer, begins_answer}
 use Rattle.asp_top.proofs.run.run_single.Goals as goal
 
-pub returns-in-Some-clause-words_refused : goal.returns-in-Some-clause-words_refused
-returns-in-Some-clause-words_refused g c =
-    λ place told.
-    line_written _ _ c.say-status.result c.word_line.result (map string_bytes c.args.words.now) c.in-Some.place place
-    c.in-Some.ensures.place c.word_line.ensures told c.say-status.ensures
+pub returns-in-Err-clause-words_refused : goal.returns-in-Err-clause-words_refused
+returns-in-Err-clause-words_refused g c =
+    refuses_word _ _ _ _ c.refuse_word-status.result (map string_bytes c.args.words.now) c.in-Err.place
+    (sym c.in-Err.ensures) c.refuse_word-status.ensures
 
-pub returns-in-Some-clause-part_written : goal.returns-in-Some-clause-part_written
-returns-in-Some-clause-part_written g c =
-    λ write bytes told.
-    line_part _ _ c.say-status.result c.word_line.result (map string_bytes c.args.words.now) bytes c.in-Some.place
-    c.in-Some.ensures.place c.word_line.ensures write c.say-status.ensures
+pub returns-in-Err-clause-part_written : goal.returns-in-Err-clause-part_written
+returns-in-Err-clause-part_written g c =
+    λ failed bytes told.
+    begins_word _ _ _ _ c.refuse_word-status.result (map string_bytes c.args.words.now) c.in-Err.place
+    (sym c.in-Err.ensures) c.refuse_word-status.ensures bytes failed
 
-pub returns-in-Some-clause-all_read : goal.returns-in-Some-clause-all_read
-returns-in-Some-clause-all_read g c =
-    λ none read memory bytes told.
-    absurd (not_both (map string_bytes c.args.words.now) c.in-Some.place c.in-Some.ensures.place none)
+pub returns-in-Ok-answer-clause-answer : goal.returns-in-Ok-answer-clause-answer
+returns-in-Ok-answer-clause-answer g c =
+    λ written bytes told.
+    says_answer _ _ _ _ c.say.result (map string_bytes c.args.words.now) c.in-Ok.command bytes c.in-Ok-answer.answer
+    (sym c.in-Ok.ensures) (c.in-Ok-answer.ensures.right bytes told) c.say.ensures written
+
+pub returns-in-Ok-answer-clause-part_written : goal.returns-in-Ok-answer-clause-part_written
+returns-in-Ok-answer-clause-part_written g c =
+    λ failed bytes told.
+    begins_answer _ _ _ _ c.say.result (map string_bytes c.args.words.now) c.in-Ok.command bytes c.in-Ok-answer.answer
+    (sym c.in-Ok.ensures) (c.in-Ok-answer.ensures.right bytes told) c.say.ensures failed

@@ -1,0 +1,30 @@
+-- The texts of lists and rules that aren't empty.
+use Rattle.std.proofs.Common.{◌≡◌, ◌↔◌, refl, IsTrue, Bool, false, List, [], ◌∷◌, ◌++◌, ℕ, codes}
+use Rattle.std.specs.List.{flat_map, join_by}
+use Rattle.asp_defs.specs.declared.syntax.Literal.{Literal}
+use Rattle.asp_defs.specs.declared.syntax.Head.{Head}
+use Rattle.asp_defs.specs.declared.syntax.Head.TheVariants.{Disj, Choice}
+use Rattle.asp_defs.specs.declared.syntax.Rule.{Rule}
+use Rattle.asp_defs.specs.Lines.{line}
+use Rattle.asp_defs.specs.Canonical.{applied_text, behind_sign, literals_text, statement_text, headed_text, rule_line, constraint_part_text}
+
+-- what a false test says
+pub untrue : {A : Type 0} (b : Bool) (x y : A) → IsTrue b ↔ (x ≡ y) → b ≡ false → x ≡ y → ⊥
+untrue b x y same fails is = let holds : IsTrue b = same.1 is in absurd (cc)
+
+pub applied_some : {A : Type 0} (text : A → List ℕ) (name : List ℕ) (xs : List A) → (xs ≡ [] → ⊥) → name ++ codes "(" ++ join_by text (codes ",") xs ++ codes ")" ≡ applied_text text name xs
+applied_some text name [] some = absurd (some refl)
+applied_some text name (x ∷ xs) some = refl
+
+pub behind_some : (sign : List ℕ) (body : List Literal) → (body ≡ [] → ⊥) → sign ++ literals_text body ≡ behind_sign sign body
+behind_some sign [] some = absurd (some refl)
+behind_some sign (l ∷ body) some = refl
+
+pub headed : (head : Head) (body : List Literal) → (head ≡ Disj [] → ⊥) → headed_text head body ≡ statement_text head body
+headed (Disj []) body some = absurd (some refl)
+headed (Disj (a ∷ atoms)) body some = refl
+headed (Choice elements) body some = refl
+
+pub constraint_part_some : (rules : List Rule) → (rules ≡ [] → ⊥) → line (codes "%@constraint") ++ flat_map rule_line rules ≡ constraint_part_text rules
+constraint_part_some [] some = absurd (some refl)
+constraint_part_some (r ∷ rules) some = refl

@@ -1,0 +1,7 @@
+pub mod Writing
+pub mod Forms
+pub mod Shapes
+pub mod Lexing
+pub mod Numerals
+pub mod Reprints
+pub mod ReprintedProgram

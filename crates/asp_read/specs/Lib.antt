@@ -1,4 +1,0 @@
-pub mod Reads
-pub mod Tokens
-pub mod Statements
-pub mod Names

@@ -1,0 +1,82 @@
+-- The bytes that were taken of a source, and what is right of them.
+use Rattle.std.proofs.Common.{◌≡◌, ◌<◌, ◌≤◌, ℕ, List, length, take, drop, take_all, length-take, ap, ◌∙◌, subst, inl, inr, arith}
+use Rattle.std.specs.Prelude.{Option, Some, None, min}
+use Rattle.std.proofs.lemmas.Bool.{cases_lt}
+use Rattle.asp_defs.specs.declared.syntax.Program.{Program}
+use Rattle.asp_defs.specs.Checks.{IsCheckedText}
+use Rattle.asp_io.specs.Moved.{TakesFirst}
+use Rattle.asp_top.specs.declared.words.Command.{Command}
+use Rattle.asp_top.specs.declared.answer.Answer.{Answer}
+use Rattle.asp_top.specs.declared.answer.Answer.TheVariants.{Refused, Accepted, NotYet, Verdict}
+use Rattle.asp_print.specs.LineTexts.{line_text}
+use Rattle.asp_top.specs.Answers.{TextRefusal, TooLong, NoText, FailedCheck}
+use Rattle.asp_top.specs.Replies.{IsRight}
+
+-- the bytes that were taken, where the source tells what it had
+pub taken_first : (before now : Option (List ℕ)) (most : ℕ) (taken bytes : List ℕ)
+    → TakesFirst before now most taken → before ≡ Some bytes → taken ≡ take most bytes
+taken_first before now most taken bytes h told =
+    go now (subst (λ (o : Option (List ℕ)). TakesFirst o now most taken) told h)
+  where
+    go : (o : Option (List ℕ)) → TakesFirst (Some bytes) o most taken → taken ≡ take most bytes
+    go None k = absurd k
+    go (Some rest) k = k.0
+
+-- the bytes that are left, where the source tells what it had
+pub rest_left : (before now : Option (List ℕ)) (most : ℕ) (taken bytes : List ℕ)
+    → TakesFirst before now most taken → before ≡ Some bytes → now ≡ Some (drop most bytes)
+rest_left before now most taken bytes h told =
+    go now (subst (λ (o : Option (List ℕ)). TakesFirst o now most taken) told h)
+  where
+    go : (o : Option (List ℕ)) → TakesFirst (Some bytes) o most taken → o ≡ Some (drop most bytes)
+    go None k = absurd k
+    go (Some rest) k = ap Some k.1
+
+-- what was taken of bytes, where it may be more than a text has
+module _ (bytes taken : List ℕ) (first : taken ≡ take 1048577 bytes) where
+  taken_length : length taken ≡ min 1048577 (length bytes)
+  taken_length = ap length first ∙ length-take 1048577 bytes
+
+  -- no more bytes than a text has are all bytes
+  all_taken : length taken ≤ 1048576 → taken ≡ bytes
+  all_taken short =
+      let is = taken_length in
+      let within : length bytes ≤ 1048577 = omega arith in
+      first ∙ take_all 1048577 bytes within
+
+  all_unless : (1048576 < length taken → ⊥) → taken ≡ bytes
+  all_unless short = elim (cases_lt 1048576 (length taken)) [
+    | inl past ↦ absurd (short past)
+    | inr within ↦ all_taken within
+  ]
+
+  checked_whole : (p : Program) → IsCheckedText taken p → IsCheckedText bytes p
+  checked_whole p text =
+      let short : length taken ≤ 1048576 = text.short in
+      subst (λ bs. IsCheckedText bs p) (all_taken short) text
+
+  refused_whole : (output : List ℕ) → TextRefusal taken output → TextRefusal bytes output
+  refused_whole output (TooLong long is) =
+      let past : 1048576 < length taken = long in
+      let same = taken_length in
+      let more : 1048576 < length bytes = omega arith in
+      TooLong more is
+  refused_whole output (NoText fault short refused is) =
+      subst (λ bs. TextRefusal bs output) (all_unless short) (NoText fault short refused is)
+  refused_whole output (FailedCheck p why short text fails is) =
+      subst (λ bs. TextRefusal bs output) (all_unless short) (FailedCheck p why short text fails is)
+
+  -- what is right of the bytes that were taken is right of all
+  pub right_of_all : (command : Command) (answer : Answer) → IsRight command taken answer → IsRight command bytes answer
+  right_of_all command (Refused line) h = refused_whole (line_text line) h
+  right_of_all command (Accepted p) (is, text) = (is, checked_whole p text)
+  right_of_all command NotYet (is, (p, text, other)) = (is, (p, checked_whole p text, other))
+  right_of_all command (Verdict verdict) (is, h) = (
+    is,
+    record {
+      rules = h.rules;
+      text = checked_whole _ h.text;
+      plain = h.plain;
+      coherent = h.coherent;
+    },
+  )

@@ -1,0 +1,79 @@
+// What a run has to say of the bytes of its source.
+ghost use Rattle.std.specs.Prelude.{◌≡◌, ◌≤◌, ◌+◌, ℕ, List, Some, IfOk, IfErr, OnOk, IsErrOf, drop, length};
+ghost use Rattle.asp_defs.specs.Checks.{IsCheckedText};
+ghost use Rattle.asp_io.specs.Causes.{Rose};
+ghost use Rattle.asp_top.specs.Replies.{IsRefusedSo, IsRight};
+
+use crate::answer::Answer;
+use crate::refusal::Refusal;
+use crate::solve::solve;
+use crate::words::Command;
+use asp_check::{Checked, check};
+use asp_defs::Which;
+use asp_io::{ReadFault, Source, read_all};
+use asp_print::Line;
+use asp_read::read;
+use std::alloc::{AllocError, Global};
+
+/// The most bytes that a text has.
+const MOST_BYTES: usize = 1_048_576;
+
+/// What the command has to say of the bytes that the source has left.
+///
+/// # Errors
+///
+/// `Failed` where the source failed, and `NoMemory` where memory ran out.
+pub fn answer<S: Source>(
+    alloc: Global,
+    command: Command,
+    source: &mut S,
+) -> Result<Answer, ReadFault>
+    ensures right { IfOk result (λ answer. (bytes : List ℕ) → S.left source.old ≡ Some bytes
+        → IsRight command bytes answer) }
+    ensures all_read { OnOk result ((bytes : List ℕ) → S.left source.old ≡ Some bytes
+        → S.left source.new ≡ Some (drop 1048577 bytes)) }
+    ensures later { S.faults source.old ≤ S.faults source.new }
+    ensures kept { OnOk result (S.faults source.new ≡ S.faults source.old) }
+    ensures failed { IsErrOf result ReadFault.Failed → Rose (S.faults source.old) (S.faults source.new) }
+    ensures memory { IsErrOf result ReadFault.NoMemory → S.faults source.new ≡ S.faults source.old }
+{
+    let bytes = read_all(alloc, source, MOST_BYTES as u64 + 1)?;
+    Ok(reply(alloc, command, bytes)?)
+}
+
+/// What the command has to say of the bytes.
+fn reply(alloc: Global, command: Command, bytes: Vec<u8>) -> Result<Answer, AllocError>
+    ensures { IfOk result (IsRight command bytes.items) }
+{
+    match accept(alloc, bytes) {
+        Ok(checked) => serve(alloc, command, checked),
+        Err(Refusal::Text(line)) => Ok(Answer::Refused(line)),
+        Err(Refusal::NoMemory) => Err(AllocError),
+    }
+}
+
+/// The program of the text, where it passes the checks. The bytes are given up.
+///
+/// # Errors
+///
+/// The text's first refusal: for its length, its tokens, its grammar, and the checks of its program.
+fn accept(alloc: Global, bytes: Vec<u8>) -> Result<Checked, Refusal>
+    ensures accepted { IfOk result (IsCheckedText bytes.items) }
+    ensures refused { IfErr result (IsRefusedSo bytes.items) }
+{
+    if bytes.len() > MOST_BYTES {
+        return Err(Refusal::Text(Line::TooLarge(Which::Bytes, 1_048_577)));
+    }
+    let program = read(alloc, bytes.as_slice())?;
+    Ok(check(alloc, program)?)
+}
+
+/// What the command has to say of an accepted text's program.
+fn serve(alloc: Global, command: Command, checked: Checked) -> Result<Answer, AllocError>
+    ensures { IfOk result (λ answer. (bytes : List ℕ) → IsCheckedText bytes checked → IsRight command bytes answer) }
+{
+    match command {
+        Command::Check => Ok(Answer::Accepted(checked)),
+        Command::Solve => solve(alloc, checked.program()),
+    }
+}

@@ -1,0 +1,136 @@
+// The texts of the repository's examples, in the order of their names.
+
+pub const EXAMPLES: [&str; 9] = [
+    "% A robot stands in one of three cells of a corridor and can't see which one. A step takes it to the next cell on the
+% left or on the right; at a wall it stays where it is.
+% Is there a plan of two steps after which it stands in cell 1, wherever it stood at first?
+
+%@exists
+cell(1..3).
+time(1..2).
+next(1,2). next(2,3).
+step(left,1,1). step(left,2,1). step(left,3,2).
+step(right,1,2). step(right,2,3). step(right,3,3).
+% The plan: one direction at each time.
+{plan(D,T) : step(D,_,_)} :- time(T).
+:- time(T), not plan(left,T), not plan(right,T).
+:- plan(left,T), plan(right,T).
+
+%@forall
+% The first cell may be any one, and nothing else is open.
+at(1,1) | at(2,1) | at(3,1).
+at(C,U) :- at(B,T), next(T,U), plan(D,T), step(D,B,C).
+
+%@constraint
+:- not at(1,3).
+",
+    "%@exists
+stay :- not leave.
+leave :- not stay.
+",
+    "% Four stones lie in a heap. Two players take one or two of them by turns, and who takes the last stone wins.
+% Is there a first move after which the first player wins, whatever the other one does?
+
+%@exists
+% leaves(H,T,S): who takes T stones from a heap of H leaves S.
+leaves(4,1,3). leaves(4,2,2).
+leaves(3,1,2). leaves(3,2,1).
+leaves(2,1,1). leaves(2,2,0).
+leaves(1,1,0).
+first(1) | first(2).
+heap(1,S) :- first(T), leaves(4,T,S).
+
+%@forall
+second(1) | second(2).
+heap(2,S) :- heap(1,H), second(T), leaves(H,T,S).
+
+%@exists
+third(1) | third(2).
+heap(3,S) :- heap(2,H), third(T), leaves(H,T,S).
+
+%@constraint
+% The first player has won where the third move leaves nothing.
+:- not heap(3,0).
+",
+    "% A fire engine is to stand at one of three crossings. minutes(C,H,M): from crossing C to house H it takes M minutes.
+% Is there a crossing from which no house is more than three minutes away? With 2 in place of 3 there is none, so
+% three minutes are the shortest longest way.
+
+%@exists
+minutes(north,mill,2). minutes(north,school,5). minutes(north,harbour,4).
+minutes(centre,mill,3). minutes(centre,school,2). minutes(centre,harbour,3).
+minutes(south,mill,6). minutes(south,school,3). minutes(south,harbour,1).
+station(north) | station(centre) | station(south).
+
+%@forall
+% The house that burns is the worst one.
+fire(mill) | fire(school) | fire(harbour).
+
+%@constraint
+:- station(C), fire(H), minutes(C,H,M), M > 3.
+",
+    "%@exists
+
+a_red :- not a_blue.
+a_blue :- not a_red.
+b_red :- not b_blue.
+b_blue :- not b_red.
+c_red :- not c_blue.
+c_blue :- not c_red.
+
+:- a_red, b_red.
+:- a_blue, b_blue.
+:- b_red, c_red.
+:- b_blue, c_blue.
+:- c_red, a_red.
+:- c_blue, a_blue.
+",
+    "%@exists
+open :- not open.
+",
+    "%@exists
+
+talk_morning :- not talk_evening.
+talk_evening :- not talk_morning.
+demo_morning :- not demo_evening.
+demo_evening :- not demo_morning.
+panel_morning :- not panel_evening.
+panel_evening :- not panel_morning.
+
+hall_morning :- talk_morning.
+hall_morning :- panel_morning.
+hall_evening :- talk_evening.
+hall_evening :- panel_evening.
+
+:- talk_morning, panel_morning.
+:- talk_evening, panel_evening.
+:- demo_morning, not talk_morning.
+:- demo_evening, hall_evening, not panel_evening.
+:- panel_morning.
+",
+    "%@exists
+
+a_red :- not a_blue.
+a_blue :- not a_red.
+b_red :- not b_blue.
+b_blue :- not b_red.
+c_red :- not c_blue.
+c_blue :- not c_red.
+d_red :- not d_blue.
+d_blue :- not d_red.
+
+:- a_red, b_red.
+:- a_blue, b_blue.
+:- b_red, c_red.
+:- b_blue, c_blue.
+:- c_red, d_red.
+:- c_blue, d_blue.
+:- d_red, a_red.
+:- d_blue, a_blue.
+",
+    "%@exists
+win :- trust.
+trust :- win.
+:- not win.
+",
+];
