@@ -4,7 +4,9 @@ pub mod Sets
 pub mod Spreading
 pub mod Steps
 pub mod Places
+pub mod Leading
 pub mod Safe
+pub mod Beside
 pub mod Unsafe
 pub mod Rules
 pub mod Checkable

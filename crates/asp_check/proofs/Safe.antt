@@ -1,6 +1,6 @@
 -- The least variables by what literals bind alone and by their links are the safe ones.
 use Rattle.std.proofs.Common.{◌≡◌, ◌⊎◌, refl, sym, ◌∙◌, ap, subst, inl, inr, Bool, true, cond, List, [], ◌∷◌, ◌++◌, map}
-use Rattle.std.specs.List.{flat_map, filter, list_all}
+use Rattle.std.specs.List.{flat_map, filter}
 use Rattle.std.proofs.lemmas.List.Concat.{flat_map-append}
 use Rattle.std.specs.Cmp.Lexicographic.{bytes_decides}
 use Rattle.std.proofs.lemmas.Bool.{eq-eqb}
@@ -13,15 +13,16 @@ use Rattle.asp_defs.specs.Lists.{IsIn}
 use Rattle.asp_defs.specs.Instances.{same_variable, term_variables, literal_variables}
 use Rattle.asp_defs.specs.Safety.{is_variable_of, bound_by_atom, bound_by_equation, is_settled, settled_by, safe_variables}
 use Rattle.asp_defs.specs.TextLaws.{IsClosed}
-use Rattle.asp_defs.proofs.Lists.{all_at, both, and_true, true_or_false, filter_at, filter_from, append_at, append_left, append_right, map_at, map_from}
+use Rattle.asp_defs.proofs.Lists.{both, and_true, true_or_false, append_at, append_left, append_right, map_at, map_from}
 use Rattle.asp_defs.proofs.SafetyLaws.{safe_variables_are_least}
 use Rattle.asp_defs.proofs.TextRefutations.{clash}
 use Rattle.asp_check.specs.declared.variables.Variable.{Variable}
 use Rattle.asp_check.specs.Variables.{term_of, terms_of}
 use Rattle.asp_check.specs.Bindings.{bound_alone, pairs, literal_links}
 use Rattle.asp_check.specs.Closure.{Within, IsSpread, IsLeast}
-use Rattle.asp_check.specs.Safe.{Agree, AgreeOn}
-use Rattle.asp_check.proofs.Members.{itself, member_at, member_from, test_more, same_test, same_truth, flat_at, flat_from}
+use Rattle.asp_check.specs.Leaders.{IsSymmetric}
+use Rattle.asp_check.specs.Safe.{Agree}
+use Rattle.asp_check.proofs.Members.{itself, member_at, member_from, same_test, flat_at, flat_from}
 
 -- a variable of a term is the same as itself
 same_self : (t v : Term) → IsIn v (term_variables t) → same_variable v v ≡ true
@@ -186,30 +187,26 @@ safe_by_body bound links body b l S least =
     least_is_safe body S (subst (λ (vs : List Term). IsLeast vs (flat_map literal_links body) S) b (subst (λ (ls : List (Term × Term)). IsLeast bound ls S) l least))
 
 -- a variable of a list of the checker's is the same as itself
-variable_self : (vars : List Variable) (v : Term) → IsIn v (terms_of vars) → same_variable v v ≡ true
+pub variable_self : (vars : List Variable) (v : Term) → IsIn v (terms_of vars) → same_variable v v ≡ true
 variable_self vars v i =
     let found = map_at term_of vars v i in subst (λ w. same_variable w w ≡ true) (sym found.2) (itself found.0)
 
 -- ---- two bodies
 
-pub safe_by_both : (bound : List Term) (links : List (Term × Term)) (body more : List Literal) → bound ≡ flat_map bound_alone body ++ flat_map bound_alone more → links ≡ flat_map literal_links body ++ flat_map literal_links more → (S : List Term) → IsLeast bound links S → Agree S (safe_variables (body ++ more))
-safe_by_both bound links body more b l S least =
-    safe_by_body bound links (body ++ more) (b ∙ sym (flat_map-append bound_alone body more)) (l ∙ sym (flat_map-append literal_links body more)) S least
-
 -- what is closed for two bodies is closed for each, and the other way round
-closed_left : (body more : List Literal) (S : List Term) → IsClosed (body ++ more) S → IsClosed body S
+pub closed_left : (body more : List Literal) (S : List Term) → IsClosed (body ++ more) S → IsClosed body S
 closed_left body more S c = record {
   atoms = λ v i. c.atoms v (subst (λ vs. IsIn v vs) (sym (flat_map-append bound_by_atom body more)) (append_left (flat_map bound_by_atom body) (flat_map bound_by_atom more) v i));
   equations = λ v i. c.equations v (subst (λ vs. IsIn v vs) (sym (flat_map-append (bound_by_equation S) body more)) (append_left (flat_map (bound_by_equation S) body) (flat_map (bound_by_equation S) more) v i));
 }
 
-closed_right : (body more : List Literal) (S : List Term) → IsClosed (body ++ more) S → IsClosed more S
+pub closed_right : (body more : List Literal) (S : List Term) → IsClosed (body ++ more) S → IsClosed more S
 closed_right body more S c = record {
   atoms = λ v i. c.atoms v (subst (λ vs. IsIn v vs) (sym (flat_map-append bound_by_atom body more)) (append_right (flat_map bound_by_atom body) (flat_map bound_by_atom more) v i));
   equations = λ v i. c.equations v (subst (λ vs. IsIn v vs) (sym (flat_map-append (bound_by_equation S) body more)) (append_right (flat_map (bound_by_equation S) body) (flat_map (bound_by_equation S) more) v i));
 }
 
-closed_both : (body more : List Literal) (S : List Term) → IsClosed body S → IsClosed more S → IsClosed (body ++ more) S
+pub closed_both : (body more : List Literal) (S : List Term) → IsClosed body S → IsClosed more S → IsClosed (body ++ more) S
 closed_both body more S c d = record {
   atoms = λ v i. elim (append_at (flat_map bound_by_atom body) (flat_map bound_by_atom more) v (subst (λ vs. IsIn v vs) (flat_map-append bound_by_atom body more) i)) [
     | inl h ↦ c.atoms v h
@@ -256,77 +253,48 @@ link_own (Cmp x Le y) u v i = absurd i
 link_own (Cmp x Gt y) u v i = absurd i
 link_own (Cmp x Ge y) u v i = absurd i
 
--- a list with all variables of a body is closed for it
-closed_whole : (body : List Literal) (S : List Term) → Within (flat_map literal_variables body) S → IsClosed body S
-closed_whole body S whole = record {
-  atoms = λ v i.
-      let found = flat_at bound_by_atom body v i in
-      whole v (flat_from literal_variables body found.0 v found.1 (atom_own found.0 v found.2));
-  equations = λ v i.
-      let found = flat_at (bound_by_equation S) body v i in
-      whole v (flat_from literal_variables body found.0 v found.1 (equation_own S found.0 v found.2));
-}
+-- each link of a literal stands there in both directions
+literal_symmetric : (l : Literal) (u v : Term) → IsIn (u, v) (literal_links l) → IsIn (v, u) (literal_links l)
+literal_symmetric (Pos a) u v i = absurd i
+literal_symmetric (Neg a) u v i = absurd i
+literal_symmetric (Cmp x Eq y) u v i = elim (append_at (pairs (term_variables x) (term_variables y)) (pairs (term_variables y) (term_variables x)) (u, v) i) [
+  | inl h ↦
+      let p = pairs_at (term_variables x) (term_variables y) u v h in
+      append_right (pairs (term_variables x) (term_variables y)) (pairs (term_variables y) (term_variables x)) (v, u) (pairs_from (term_variables y) (term_variables x) v u p.1 p.0)
+  | inr h ↦
+      let p = pairs_at (term_variables y) (term_variables x) u v h in
+      append_left (pairs (term_variables x) (term_variables y)) (pairs (term_variables y) (term_variables x)) (v, u) (pairs_from (term_variables x) (term_variables y) v u p.1 p.0)
+]
+literal_symmetric (Cmp x Ne y) u v i = absurd i
+literal_symmetric (Cmp x Lt y) u v i = absurd i
+literal_symmetric (Cmp x Le y) u v i = absurd i
+literal_symmetric (Cmp x Gt y) u v i = absurd i
+literal_symmetric (Cmp x Ge y) u v i = absurd i
 
--- ---- a condition beside a body whose variables are all safe
+pub links_are_symmetric : (body : List Literal) → IsSymmetric (flat_map literal_links body)
+links_are_symmetric body u v i =
+    let found = flat_at literal_links body (u, v) i in
+    flat_from literal_links body found.0 (v, u) found.1 (literal_symmetric found.0 u v found.2)
 
--- what an element's own variables have of the body, and what its condition binds by itself
-abbrev beside : List Literal → List Term → List Term → List Term
-beside more some safe = flat_map bound_alone more ++ filter (is_variable_of safe) some
+-- what literals bind alone, and both ends of their links, are their own variables
+alone_own : (l : Literal) → Within (bound_alone l) (literal_variables l)
+alone_own l v i = elim (append_at (bound_by_atom l) (bound_by_equation [] l) v i) [
+  | inl h ↦ atom_own l v h
+  | inr h ↦ equation_own [] l v h
+]
 
-beside_up : (body more : List Literal) (some safe S : List Term) → Agree safe (safe_variables body) → IsLeast (beside more some safe) (flat_map literal_links more) S → Within S (safe_variables (body ++ more))
-beside_up body more some safe S agree least =
-    least.least (safe_variables (body ++ more)) (record {
-      has = λ v i. elim (append_at (flat_map bound_alone more) (filter (is_variable_of safe) some) v i) [
-        | inl h ↦ (alone).has v h
-        | inr h ↦
-            (safe_variables_are_least body).1 (safe_variables (body ++ more)) (closed_left body more (safe_variables (body ++ more)) law) v
-            (member_at (safe_variables body) v (sym (agree v) ∙ (filter_at (is_variable_of safe) some v h).1))
-      ];
-      goes = (alone).goes;
-    })
-  where
-    law : IsClosed (body ++ more) (safe_variables (body ++ more))
-    law = (safe_variables_are_least (body ++ more)).0
+pub bound_own : (body : List Literal) → Within (flat_map bound_alone body) (flat_map literal_variables body)
+bound_own body v i =
+    let found = flat_at bound_alone body v i in
+    flat_from literal_variables body found.0 v found.1 (alone_own found.0 v found.2)
 
-    alone : IsSpread (flat_map bound_alone more) (flat_map literal_links more) (safe_variables (body ++ more))
-    alone = spread_from more (safe_variables (body ++ more)) (closed_right body more (safe_variables (body ++ more)) law)
+pub source_own : (body : List Literal) (u v : Term) → IsIn (u, v) (flat_map literal_links body) → IsIn u (flat_map literal_variables body)
+source_own body u v i =
+    let found = flat_at literal_links body (u, v) i in
+    flat_from literal_variables body found.0 u found.1 (link_own found.0 u v found.2)
 
--- a variable of the element that the body binds
-beside_common : (more : List Literal) (some safe S : List Term) → IsLeast (beside more some safe) (flat_map literal_links more) S → (v : Term) → same_variable v v ≡ true → IsIn v some → IsIn v safe → IsIn v S
-beside_common more some safe S least v same i j =
-    least.spread.has v (append_right (flat_map bound_alone more) (filter (is_variable_of safe) some) v
-    (filter_from (is_variable_of safe) some v i (member_from safe v same j)))
-
-beside_down : (body more : List Literal) (vars : List Variable) (safe S : List Term) → Within (flat_map literal_variables body) safe → Within (flat_map literal_variables more) (terms_of vars) → IsLeast (beside more (terms_of vars) safe) (flat_map literal_links more) S → Within (safe_variables (body ++ more)) (S ++ safe)
-beside_down body more vars safe S whole own least =
-    (safe_variables_are_least (body ++ more)).1 (S ++ safe)
-    (closed_both body more (S ++ safe)
-    (closed_whole body (S ++ safe) (λ v i. append_right S safe v (whole v i)))
-    (closed_from more (S ++ safe) (record {
-      has = λ v i. append_left S safe v (least.spread.has v (append_left (flat_map bound_alone more) (filter (is_variable_of safe) (terms_of vars)) v i));
-      goes = λ u v l i. append_left S safe v (least.spread.goes u v l (elim (append_at S safe u i) [
-        | inl h ↦ h
-        | inr h ↦ linked u v l h
-      ]));
-    })))
-  where
-    linked : (u v : Term) → IsIn (u, v) (flat_map literal_links more) → IsIn u safe → IsIn u S
-    linked u v l h =
-        let found = flat_at literal_links more (u, v) l in
-        let mine = own u (flat_from literal_variables more found.0 u found.1 (link_own found.0 u v found.2)) in
-        beside_common more (terms_of vars) safe S least u (variable_self vars u mine) mine h
-
-pub safe_beside : (body more : List Literal) (vars : List Variable) (safe S : List Term) → Agree safe (safe_variables body) → list_all (is_variable_of safe) (flat_map literal_variables body) ≡ true → Within (flat_map literal_variables more) (terms_of vars) → IsLeast (flat_map bound_alone more ++ filter (is_variable_of safe) (terms_of vars)) (flat_map literal_links more) S → AgreeOn (terms_of vars) S (safe_variables (body ++ more))
-safe_beside body more vars safe S agree whole own least v i =
-    same_truth (is_variable_of S v) (is_variable_of (safe_variables (body ++ more)) v)
-    (test_more S (safe_variables (body ++ more)) (beside_up body more (terms_of vars) safe S agree least) v)
-    (λ h. member_from S v (variable_self vars v i) (down (append_at S safe v
-    (beside_down body more vars safe S (λ u j. member_at safe u (all_at (is_variable_of safe) (flat_map literal_variables body) u whole j)) own least v
-    (member_at (safe_variables (body ++ more)) v h)))))
-  where
-    down : IsIn v S ⊎ IsIn v safe → IsIn v S
-    down (inl h) = h
-    down (inr h) = beside_common more (terms_of vars) safe S least v (variable_self vars v i) i h
+pub target_own : (body : List Literal) (u v : Term) → IsIn (u, v) (flat_map literal_links body) → IsIn v (flat_map literal_variables body)
+target_own body u v i = source_own body v u (links_are_symmetric body u v i)
 
 -- the same variables of a list pass where two tests agree on it
 pub filter_agrees : (p q : Term → Bool) (vs : List Term) → ((v : Term) → IsIn v vs → p v ≡ q v) → filter p vs ≡ filter q vs

@@ -225,3 +225,54 @@ least_without_links bound links S Q g none = record {
   };
   least = λ ws spread v i. spread.has v (g.only v i);
 }
+
+-- ---- what is reached, as a list
+
+-- variables on the way to the least ones, and those of them that were taken from the queue
+pub record Reaching (bound : List Term) (links : List (Term × Term)) (safe queue taken : List Term) : Type 0 where
+  pub spreading : Spreading bound links safe queue
+  pub all : (v : Term) → IsIn v safe → IsIn v taken ⊎ IsIn v queue
+  pub only : Within taken safe
+
+pub reaching_start : (s : Term) (links : List (Term × Term)) (S T Q R K : List Term) → S ≡ [] → Q ≡ [] → K ≡ [] → Settles s S T Q R → Reaching (s ∷ []) links T R K
+reaching_start s links S T Q R K none idle nothing settles = record {
+  spreading = spreading_start (s ∷ []) links T R gathered;
+  all = λ v i. inr ((gathered).queued v i);
+  only = λ v i. absurd (subst (λ (ks : List Term). IsIn v ks) nothing i);
+}
+  where
+    gathered : Gathers (s ∷ []) T R
+    gathered =
+        gathers_more [] s [] T [] R gathers_none
+        (subst (λ (q : List Term). Settles s [] T q R) idle (subst (λ (p : List Term). Settles s p T Q R) none settles))
+
+pub reaching_more : (bound : List Term) (links : List (Term × Term)) (u : Term) (S T Q R K : List Term) → Reaching bound links S (Q ++ u ∷ []) K → Follows links links u S T Q R → Reaching bound links T R (K ++ u ∷ [])
+reaching_more bound links u S T Q R K r f = record {
+  spreading = spreading_more bound links u S T Q R r.spreading f;
+  all = λ v i. elim (f.queued v i) [
+    | inl h ↦ elim (r.all v h) [
+      | inl k ↦ inl (append_left K (u ∷ []) v k)
+      | inr q ↦ elim (append_at Q (u ∷ []) v q) [
+        | inl w ↦ inr (f.waiting v w)
+        | inr w ↦ inl (append_right K (u ∷ []) v w)
+      ]
+    ]
+    | inr h ↦ inr h
+  ];
+  only = λ v i. elim (append_at K (u ∷ []) v i) [
+    | inl k ↦ f.kept v (r.only v k)
+    | inr k ↦ f.kept v (r.spreading.safely v (append_right Q (u ∷ []) v k))
+  ];
+}
+
+pub reaching_end : (bound : List Term) (links : List (Term × Term)) (S K : List Term) → Reaching bound links S [] K → IsLeast bound links K
+reaching_end bound links S K r = record {
+  spread = record {
+    has = λ v i. up v (r.spreading.has v i);
+    goes = λ u v l i. up v (elim (r.spreading.goes u v l (r.only u i)) [ inl h ↦ h | inr never ↦ absurd never ]);
+  };
+  least = λ ws spread v i. r.spreading.least ws spread v (r.only v i);
+}
+  where
+    up : Within S K
+    up v i = elim (r.all v i) [ inl h ↦ h | inr never ↦ absurd never ]

@@ -1,11 +1,8 @@
 -- One step of a loop over variables or links.
-use Rattle.std.proofs.Common.{ℕ, ◌≡◌, ◌+◌, ◌<◌, sym, ◌∙◌, ap, subst, refl, zero, suc, inl, inr, Bool, false, List, [], ◌∷◌, ◌++◌, map, length, get_or, take, arith}
-use Rattle.std.specs.List.{list_all}
+use Rattle.std.proofs.Common.{ℕ, ◌≡◌, ◌+◌, ◌<◌, sym, ◌∙◌, ap, subst, refl, zero, suc, inl, inr, List, [], ◌∷◌, ◌++◌, map, length, get_or, take, arith}
 use Rattle.std.proofs.lemmas.List.{take_more, map-append}
 use Rattle.asp_defs.specs.declared.syntax.Term.{Term}
 use Rattle.asp_defs.specs.Lists.{IsIn}
-use Rattle.asp_defs.proofs.Lists.{true_or_false, all_at}
-use Rattle.asp_defs.proofs.TextRefutations.{clash}
 use Rattle.asp_check.specs.declared.variables.Variable.{Variable}
 use Rattle.asp_check.specs.Variables.{term_of, terms_of}
 use Rattle.asp_check.specs.Closure.{Settles, Gathers}
@@ -22,13 +19,6 @@ get_is_in (x ∷ xs) (suc i) d h = inr (get_is_in xs i d (omega arith))
 pub none_left : {A : Type 0} (xs : List A) → length xs ≡ 0 → xs ≡ []
 none_left [] e = refl
 none_left (x ∷ xs) e = absurd (omega arith)
-
--- a list with a member that fails doesn't pass
-pub all_fails : {A : Type 0} (p : A → Bool) (xs : List A) (x : A) → IsIn x xs → p x ≡ false → false ≡ list_all p xs
-all_fails p xs x i h = elim (true_or_false (list_all p xs)) [
-  | inl e ↦ clash (sym h ∙ all_at p xs x e i)
-  | inr e ↦ sym e
-]
 
 pub gathers_step : (xs : List Variable) (i : ℕ) (d : Variable) → i < length xs → (S T Q R : List Term) → Gathers (terms_of (take i xs)) S Q → Settles (term_of (get_or xs i d)) S T Q R → Gathers (terms_of (take (i + 1) xs)) T R
 gathers_step xs i d h S T Q R g s =

@@ -7,3 +7,4 @@ pub mod Refusals
 pub mod Condition
 pub mod Laws
 pub mod Index
+pub mod Leaders

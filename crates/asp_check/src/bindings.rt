@@ -12,12 +12,14 @@ use asp_defs::{Literal, NoMemory, Op, Term};
 /// An equation that makes its second variable safe where the first one is.
 #[derive(Clone, Copy, Debug)]
 pub struct Link<'a> {
+    /// The variable that is safe first.
     pub from: Variable<'a>,
+    /// The variable that is safe by it.
     pub to: Variable<'a>,
 }
 
 /// Adds the two links of an equation between variables.
-fn add_both<'a>(
+pub fn add_both<'a>(
     links: &mut Vec<Link<'a>>,
     left: Variable<'a>,
     right: Variable<'a>,

@@ -1,15 +1,15 @@
 //! The checks of a program.
 ghost use Rattle.std.specs.Prelude.{◌≡◌, ◌+◌, ◌++◌, ◌<◌, ◌^◌, None, map, length, IfOk, IfErr, IsTrue, OnOk};
 ghost use Rattle.asp_defs.specs.Safety.{all_rules, first_unsafe_from, shown_number};
-ghost use Rattle.asp_defs.specs.ConstraintPart.{first_headed_from, is_no_head, headed_in};
+ghost use Rattle.asp_defs.specs.ConstraintPart.{first_headed_from, headed_in};
 ghost use Rattle.asp_defs.specs.Limits.{too_large_in};
 ghost use Rattle.asp_defs.specs.Checks.{check_refusal, is_checked};
 ghost use Rattle.asp_check.specs.Condition.{IsCheckable};
 ghost use Rattle.asp_check.specs.Refusals.{IsRefusal};
 
-use crate::counts::{most_arguments, most_literals, most_variables, past_limit};
+use crate::counts::{most_arguments, most_literals, most_variables};
 use crate::safety::{first_unsafe, shown};
-use asp_defs::{Head, NoMemory, Program, Rule, Var, Which};
+use asp_defs::{NoMemory, Program, Rule, Var, Which};
 use std::alloc::{AllocError, Global};
 use std::marker::Model;
 use thiserror::Error;
@@ -86,23 +86,13 @@ fn unsafe_in(alloc: Global, rules: &[&Rule]) -> Result<Option<(u32, Var)>, NoMem
     Ok(None)
 }
 
-/// Whether a head is that of a constraint.
-fn is_no_head(head: &Head) -> bool
-    ensures { result ≡ is_no_head head.now }
-{
-    match head {
-        Head::Disj(atoms) => atoms.is_empty(),
-        Head::Choice(_) => false,
-    }
-}
-
 /// The first rule that isn't a constraint, by its number behind so many other rules.
 fn first_headed(before: usize, rules: &[Rule]) -> Option<u32>
     requires { before + length rules.now < 2 ^ 63 }
     ensures { result ≡ first_headed_from (before + 1) rules.now }
 {
     for (at, rule) in rules.iter().enumerate() {
-        if !is_no_head(&rule.head) {
+        if !rule.is_constraint() {
             return Some(shown_number((before + at) as u64 + 1));
         }
     }
@@ -127,16 +117,16 @@ fn too_large_in(
     requires { map (λ r. r.now) rules.now ≡ all_rules program.now }
     ensures { IfOk result (λ found. found ≡ too_large_in program.now) }
 {
-    if let Some(found) = past_limit(Which::Levels, program.levels.len() as u64) {
+    if let Some(found) = Which::Levels.past_limit(program.levels.len() as u64) {
         return Ok(Some(found));
     }
-    if let Some(found) = past_limit(Which::Arguments, most_arguments(rules)) {
+    if let Some(found) = Which::Arguments.past_limit(most_arguments(rules)) {
         return Ok(Some(found));
     }
-    if let Some(found) = past_limit(Which::Literals, most_literals(rules)) {
+    if let Some(found) = Which::Literals.past_limit(most_literals(rules)) {
         return Ok(Some(found));
     }
-    Ok(past_limit(Which::Variables, most_variables(alloc, rules)?))
+    Ok(Which::Variables.past_limit(most_variables(alloc, rules)?))
 }
 
 /// Judges a program: an error is its first refusal.

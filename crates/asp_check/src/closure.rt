@@ -1,5 +1,5 @@
 //! The variables that are safe by what is bound and what is linked.
-ghost use Rattle.std.specs.Prelude.{◌≡◌, [], length, OnOk, IfOk};
+ghost use Rattle.std.specs.Prelude.{◌≡◌, ◌∷◌, [], length, OnOk, IfOk};
 ghost use Rattle.asp_defs.specs.Safety.{is_variable_of};
 ghost use Rattle.asp_check.specs.Variables.{term_of, terms_of};
 ghost use Rattle.asp_check.specs.Bindings.{links_of};
@@ -91,4 +91,25 @@ pub fn close<'a>(
         follow(links, &index, from, &mut safe, &mut queue)?;
     }
     Ok(safe)
+}
+
+/// The variables that links reach from one, itself included. Each link from them is looked at once.
+pub fn reached<'a>(
+    alloc: Global,
+    links: &[Link<'a>],
+    index: &Index<'a>,
+    start: Variable<'a>,
+) -> Result<Vec<Variable<'a>>, NoMemory>
+    requires { IsIndexOf (links_of links.now) (length links.now) index.now.last.entries index.now.previous.items }
+    ensures { IfOk result (λ out. IsLeast (term_of start.entry ∷ []) (links_of links.now) (terms_of out.items)) }
+{
+    let mut safe = HashSet::new(alloc);
+    let mut queue = Vec::new(alloc);
+    let mut out = Vec::new(alloc);
+    settle(&mut safe, &mut queue, start)?;
+    while let Some(from) = queue.pop() {
+        out.push(from)?;
+        follow(links, index, from, &mut safe, &mut queue)?;
+    }
+    Ok(out)
 }

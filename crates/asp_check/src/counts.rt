@@ -11,14 +11,12 @@ ghost use Rattle.asp_defs.specs.Limits.{
   rule_literals,
   variable_count,
   greatest,
-  past_limit,
-  limit,
 };
 ghost use Rattle.asp_check.specs.Counts.{arguments_with, capped};
 
 use crate::safety::count_distinct;
 use crate::variables::variables;
-use asp_defs::{Atom, Element, Head, Literal, NoMemory, Rule, Which};
+use asp_defs::{Atom, Element, Head, Literal, NoMemory, Rule};
 use std::alloc::Global;
 
 /// The greater of a count and that of an atom's arguments.
@@ -144,34 +142,4 @@ pub fn most_variables(alloc: Global, rules: &[&Rule]) -> Result<u64, NoMemory>
         most = rule_variables(alloc, most, rule)?;
     }
     Ok(most)
-}
-
-/// The greatest count that a limit allows.
-pub fn limit(which: Which) -> u64
-    ensures { result ≡ limit which }
-{
-    match which {
-        Which::Bytes => 1_048_576,
-        Which::Levels => 16,
-        Which::Arguments => 16,
-        Which::Literals => 64,
-        Which::Variables => 16,
-        Which::Constants => 4_096,
-        Which::Atoms => 262_144,
-        Which::Instances => 4_000_000,
-    }
-}
-
-/// The greatest count that a refusal shows.
-const MOST_SHOWN: u64 = 1_000_000_000_000_000_000;
-
-/// A count that passes its limit, as a refusal shows it.
-pub fn past_limit(which: Which, count: u64) -> Option<(Which, u64)>
-    ensures { result ≡ past_limit which count }
-{
-    if count > limit(which) {
-        Some((which, count.min(MOST_SHOWN)))
-    } else {
-        None
-    }
 }

@@ -14,7 +14,9 @@ use std::collections::HashMap;
 /// variable: so all links from a variable are found without a look at the others.
 #[derive(Drop)]
 pub struct Index<'a> {
+    /// The place of the last link from each variable.
     pub last: HashMap<Variable<'a>, usize>,
+    /// For each link the place of the one before it from the same variable, if there is one.
     pub previous: Vec<Option<usize>>,
 }
 

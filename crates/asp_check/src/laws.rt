@@ -1,4 +1,4 @@
-// Laws of the condition of `check`: each contract is one, and each body is empty.
+//! Laws of the condition of `check`: each contract is one, and each body is empty.
 ghost use Rattle.asp_check.specs.Laws.{ProgramsAreCheckable, TextsAreCheckable};
 
 /// Every program of tokens meets the condition of `check`.

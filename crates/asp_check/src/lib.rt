@@ -2,8 +2,9 @@
 //!
 //! In reading order: `variables` (the variables of a rule, as they are written), `bindings` (what a body binds by
 //! itself, and what its equations link), `index` (where the links from a variable
-//! stand), `closure` (the variables that are safe by them), `safety` (the unsafe variables
-//! of a rule), `counts` (what the limits count), `checks` (the answer for a program).
+//! stand), `closure` (the variables that are safe by them), `leaders` (the variables that equations join, by one of
+//! them), `safety` (the unsafe variables of a rule), `counts` (what the limits count), `checks` (the answer for a
+//! program).
 #![tactic(auto)]
 
 mod bindings;
@@ -12,6 +13,7 @@ mod closure;
 mod counts;
 mod index;
 pub mod laws;
+mod leaders;
 mod safety;
 mod variables;
 

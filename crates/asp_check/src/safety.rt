@@ -1,8 +1,8 @@
 //! The unsafe variables of a rule.
-ghost use Rattle.std.specs.Prelude.{◌≡◌, ◌++◌, ℕ, not, length, OnOk, IfOk, IsTrue};
-ghost use Rattle.std.specs.List.{flat_map, filter, find, list_all};
+ghost use Rattle.std.specs.Prelude.{◌≡◌, ◌++◌, ℕ, not, length, OnOk, IfOk};
+ghost use Rattle.std.specs.List.{flat_map, filter, find};
 ghost use Rattle.std.specs.Option.{option_map};
-ghost use Rattle.asp_defs.specs.Instances.{atom_variables, literal_variables, first_occurrences};
+ghost use Rattle.asp_defs.specs.Instances.{atom_variables, first_occurrences};
 ghost use Rattle.asp_defs.specs.Safety.{
   is_variable_of,
   element_variables,
@@ -17,26 +17,16 @@ ghost use Rattle.asp_defs.specs.Safety.{
 ghost use Rattle.asp_check.specs.Variables.{term_of, terms_of};
 ghost use Rattle.asp_check.specs.Bindings.{bound_alone, literal_links, links_of};
 ghost use Rattle.asp_check.specs.Closure.{IsLeast};
+ghost use Rattle.asp_check.specs.Leaders.{LeadAll, leader_links};
 ghost use Rattle.asp_check.specs.Safe.{AgreeOn, Agree, element_unsafe};
 
 use crate::bindings::add_bindings;
 use crate::closure::{close, has, settle_all};
+use crate::leaders::{add_leaders, leaders_of};
 use crate::variables::{Variable, add_atoms, add_element, add_literals, variables};
 use asp_defs::{Element, Head, Literal, Name, NoMemory, Rule, Var};
 use std::alloc::Global;
-use std::collections::HashSet;
-
-/// Whether all of the variables are in a set.
-fn has_all<'a>(set: &HashSet<Variable<'a>>, variables: &[Variable<'a>]) -> bool
-    ensures { result ≡ list_all (is_variable_of (terms_of set.now.keys)) (terms_of variables.now) }
-{
-    for variable in variables {
-        if !has(set, *variable) {
-            return false;
-        }
-    }
-    true
-}
+use std::collections::{HashMap, HashSet};
 
 /// Adds those of the variables that are in a set.
 fn add_common<'a>(
@@ -73,21 +63,6 @@ fn add_others<'a>(
     Ok(())
 }
 
-/// The safe variables of two bodies together.
-fn safe_of_both<'a>(
-    alloc: Global,
-    body: &'a [Literal],
-    more: &'a [Literal],
-) -> Result<HashSet<Variable<'a>>, NoMemory>
-    ensures { IfOk result (λ set. Agree (terms_of set.keys) (safe_variables (body.now ++ more.now))) }
-{
-    let mut bound = Vec::new(alloc);
-    let mut links = Vec::new(alloc);
-    add_bindings(&mut bound, &mut links, body)?;
-    add_bindings(&mut bound, &mut links, more)?;
-    close(alloc, bound.as_slice(), links.as_slice())
-}
-
 /// The safe variables of a body.
 fn safe_of_body<'a>(alloc: Global, body: &'a [Literal]) -> Result<HashSet<Variable<'a>>, NoMemory>
     ensures { IfOk result (λ set. Agree (terms_of set.keys) (safe_variables body.now)) }
@@ -98,47 +73,58 @@ fn safe_of_body<'a>(alloc: Global, body: &'a [Literal]) -> Result<HashSet<Variab
     close(alloc, bound.as_slice(), links.as_slice())
 }
 
-/// The least variables with what an element's condition binds by itself and what a body has of the element's variables.
+/// The leaders of the variables that a body's equations join.
+fn leaders_of_body<'a>(
+    alloc: Global,
+    body: &'a [Literal],
+) -> Result<HashMap<Variable<'a>, Variable<'a>>, NoMemory>
+    ensures { IfOk result (λ leaders. LeadAll (flat_map literal_links body.now) leaders.entries) }
+{
+    let mut bound = Vec::new(alloc);
+    let mut links = Vec::new(alloc);
+    add_bindings(&mut bound, &mut links, body)?;
+    leaders_of(alloc, links.as_slice())
+}
+
+/// The least variables by an element's condition, by what a body has of the element's variables, and by leaders.
 fn safe_beside<'a>(
     alloc: Global,
     safe: &HashSet<Variable<'a>>,
+    leaders: &HashMap<Variable<'a>, Variable<'a>>,
     cond: &'a [Literal],
     variables: &[Variable<'a>],
 ) -> Result<HashSet<Variable<'a>>, NoMemory>
     ensures { IfOk result (λ set. IsLeast
         (flat_map bound_alone cond.now ++ filter (is_variable_of (terms_of safe.now.keys)) (terms_of variables.now))
-        (flat_map literal_links cond.now)
+        (flat_map literal_links cond.now ++ flat_map (leader_links leaders.now.entries) (terms_of variables.now))
         (terms_of set.keys)) }
 {
     let mut bound = Vec::new(alloc);
     let mut links = Vec::new(alloc);
     add_bindings(&mut bound, &mut links, cond)?;
     add_common(&mut bound, safe, variables)?;
+    add_leaders(&mut links, leaders, variables)?;
     close(alloc, bound.as_slice(), links.as_slice())
 }
 
-/// The safe ones of an element's variables, where the body's are known. Where all variables of the body are safe, its
-/// literals aren't looked at again.
+/// The safe ones of an element's variables. The safe ones and the leaders of the body's are known, so that its literals
+/// aren't looked at again.
 fn safe_of_element<'a>(
     alloc: Global,
     body: &'a [Literal],
     safe: &HashSet<Variable<'a>>,
-    is_whole: bool,
+    leaders: &HashMap<Variable<'a>, Variable<'a>>,
     element: &'a Element,
     variables: &[Variable<'a>],
 ) -> Result<HashSet<Variable<'a>>, NoMemory>
     requires safe { Agree (terms_of safe.now.keys) (safe_variables body.now) }
-    requires whole { is_whole ≡ list_all (is_variable_of (terms_of safe.now.keys)) (flat_map literal_variables body.now) }
+    requires leaders { LeadAll (flat_map literal_links body.now) leaders.now.entries }
     requires variables { terms_of variables.now ≡ element_variables element.now }
     ensures { IfOk result (λ set. AgreeOn (terms_of variables.now) (terms_of set.keys)
         (safe_variables (body.now ++ element.now.cond))) }
 {
     let cond = element.cond.as_slice();
-    if is_whole {
-        safe_beside(alloc, safe, cond, variables)
-    } else {
-        safe_of_both(alloc, body, cond)
-    }
+    safe_beside(alloc, safe, leaders, cond, variables)
 }
 
 /// Adds the unsafe variables of an element.
@@ -147,16 +133,16 @@ fn add_element_unsafe<'a>(
     out: &mut Vec<Variable<'a>>,
     body: &'a [Literal],
     safe: &HashSet<Variable<'a>>,
-    is_whole: bool,
+    leaders: &HashMap<Variable<'a>, Variable<'a>>,
     element: &'a Element,
 ) -> Result<(), NoMemory>
     requires safe { Agree (terms_of safe.now.keys) (safe_variables body.now) }
-    requires whole { is_whole ≡ list_all (is_variable_of (terms_of safe.now.keys)) (flat_map literal_variables body.now) }
+    requires leaders { LeadAll (flat_map literal_links body.now) leaders.now.entries }
     ensures { OnOk result (terms_of out.new.items ≡ terms_of out.old.items ++ element_unsafe body.now element.now) }
 {
     let mut variables = Vec::new(alloc);
     add_element(&mut variables, element)?;
-    let set = safe_of_element(alloc, body, safe, is_whole, element, variables.as_slice())?;
+    let set = safe_of_element(alloc, body, safe, leaders, element, variables.as_slice())?;
     add_others(out, &set, variables.as_slice())
 }
 
@@ -166,16 +152,16 @@ fn add_elements_unsafe<'a>(
     out: &mut Vec<Variable<'a>>,
     body: &'a [Literal],
     safe: &HashSet<Variable<'a>>,
-    is_whole: bool,
+    leaders: &HashMap<Variable<'a>, Variable<'a>>,
     elements: &'a [Element],
 ) -> Result<(), NoMemory>
     requires safe { Agree (terms_of safe.now.keys) (safe_variables body.now) }
-    requires whole { is_whole ≡ list_all (is_variable_of (terms_of safe.now.keys)) (flat_map literal_variables body.now) }
+    requires leaders { LeadAll (flat_map literal_links body.now) leaders.now.entries }
     ensures { OnOk result (terms_of out.new.items
         ≡ terms_of out.old.items ++ flat_map (element_unsafe body.now) elements.now) }
 {
     for element in elements {
-        add_element_unsafe(alloc, out, body, safe, is_whole, element)?;
+        add_element_unsafe(alloc, out, body, safe, leaders, element)?;
     }
     Ok(())
 }
@@ -186,11 +172,9 @@ fn add_head_unsafe<'a>(
     out: &mut Vec<Variable<'a>>,
     body: &'a [Literal],
     safe: &HashSet<Variable<'a>>,
-    is_whole: bool,
     head: &'a Head,
 ) -> Result<(), NoMemory>
     requires safe { Agree (terms_of safe.now.keys) (safe_variables body.now) }
-    requires whole { is_whole ≡ list_all (is_variable_of (terms_of safe.now.keys)) (flat_map literal_variables body.now) }
     ensures { OnOk result (terms_of out.new.items ≡ terms_of out.old.items ++ head_unsafe body.now head.now) }
 {
     match head {
@@ -200,7 +184,8 @@ fn add_head_unsafe<'a>(
             add_others(out, safe, variables.as_slice())
         }
         Head::Choice(elements) => {
-            add_elements_unsafe(alloc, out, body, safe, is_whole, elements.as_slice())
+            let leaders = leaders_of_body(alloc, body)?;
+            add_elements_unsafe(alloc, out, body, safe, &leaders, elements.as_slice())
         }
     }
 }
@@ -213,9 +198,8 @@ fn rule_unsafe<'a>(alloc: Global, rule: &'a Rule) -> Result<Vec<Variable<'a>>, N
     let mut variables = Vec::new(alloc);
     add_literals(&mut variables, body)?;
     let safe = safe_of_body(alloc, body)?;
-    let is_whole = has_all(&safe, variables.as_slice());
     let mut out = Vec::new(alloc);
-    add_head_unsafe(alloc, &mut out, body, &safe, is_whole, &rule.head)?;
+    add_head_unsafe(alloc, &mut out, body, &safe, &rule.head)?;
     add_others(&mut out, &safe, variables.as_slice())?;
     Ok(out)
 }

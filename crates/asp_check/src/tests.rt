@@ -185,7 +185,7 @@ fn answer(alloc: Global, signs: &[u8]) -> Result<Vec<u8>, NoMemory> {
     }
 }
 
-const ROWS: [(&[u8], &[u8]); 62] = [
+const ROWS: [(&[u8], &[u8]); 67] = [
     // Bound by positive atoms alone.
     (b"%", b"ok"),
     (b"h.%", b"ok"),
@@ -234,6 +234,12 @@ const ROWS: [(&[u8], &[u8]); 62] = [
     (b"XhXY=Z+eYZ=}%", b"unsafe Y 1"),
     (b"XhZ+eXY=YZ=}%", b"unsafe X 1"),
     (b"XhX+eYhY+eYhe}%", b"unsafe Y 1"),
+    // By the condition and a chain of the body's equations, which bind nothing by themselves.
+    (b"WhWX=Y+eXY=}%", b"unsafe X 1"),
+    (b"WhWX=Z+eXY=YZ=}%", b"unsafe X 1"),
+    (b"WhWX=Z+eXY=ZV=}%", b"unsafe W 1"),
+    (b"WhWX=ehY+eXY=}%", b"unsafe W 1"),
+    (b"WhWX=Z+eZY=YX=Y+}%", b"ok"),
     (b"}%", b"ok"),
     (b"he}%", b"ok"),
     // Nameless variables.
@@ -352,11 +358,8 @@ fn numbered(alloc: Global, number: u32) -> Result<Term, NoMemory> {
     Ok(Term::Var(Name::from_slice(alloc, name.as_bytes())?))
 }
 
-/// A rule whose head's variable is bound by a chain of equations, the last of which comes last.
-fn chain(alloc: Global, times: u32) -> Result<Program, NoMemory> {
-    let mut builder = Builder::new(alloc);
-    builder.terms.push(numbered(alloc, 0)?)?;
-    builder.put(b'h')?;
+/// Adds equations between each of the numbered variables and the next one.
+fn add_equations(builder: &mut Builder, alloc: Global, times: u32) -> Result<(), NoMemory> {
     for number in 0..times {
         builder.terms.push(numbered(alloc, number)?)?;
         builder
@@ -364,6 +367,15 @@ fn chain(alloc: Global, times: u32) -> Result<Program, NoMemory> {
             .push(numbered(alloc, number.saturating_add(1))?)?;
         builder.put(b'=')?;
     }
+    Ok(())
+}
+
+/// A rule whose head's variable is bound by a chain of equations, the last of which comes last.
+fn chain(alloc: Global, times: u32) -> Result<Program, NoMemory> {
+    let mut builder = Builder::new(alloc);
+    builder.terms.push(numbered(alloc, 0)?)?;
+    builder.put(b'h')?;
+    add_equations(&mut builder, alloc, times)?;
     builder.terms.push(numbered(alloc, times)?)?;
     builder.put(b'i')?;
     builder.put(b'=')?;
@@ -388,5 +400,39 @@ fn follows_long_chains(rt: HostRuntime) -> Result<(), NoMemory> {
         };
         assert!(rt; answer.as_slice() == expected);
     }
+    Ok(())
+}
+
+/// Adds elements whose variable is equated with the first numbered one.
+fn add_elements(builder: &mut Builder, alloc: Global, times: u32) -> Result<(), NoMemory> {
+    for _ in 0..times {
+        builder.put(b'W')?;
+        builder.put(b'h')?;
+        builder.put(b'W')?;
+        builder.terms.push(numbered(alloc, 0)?)?;
+        builder.put(b'=')?;
+        builder.put(b'e')?;
+    }
+    Ok(())
+}
+
+/// A choice of many elements beside a chain of as many equations, none of which binds anything.
+fn wide(alloc: Global, times: u32) -> Result<Program, NoMemory> {
+    let mut builder = Builder::new(alloc);
+    add_elements(&mut builder, alloc, times)?;
+    add_equations(&mut builder, alloc, times)?;
+    builder.put(b'}')?;
+    builder.put(b'%')?;
+    Ok(built(builder))
+}
+
+#[test]
+fn judges_many_elements_beside_a_long_body(rt: HostRuntime) -> Result<(), NoMemory> {
+    let alloc = rt.alloc();
+    let answer = match judge(alloc, &wide(alloc, 30_000)?) {
+        Ok(()) => Vec::from_slice(alloc, b"ok")?,
+        Err(fault) => written(alloc, &fault)?,
+    };
+    assert!(rt; answer.as_slice() == b"unsafe W 1".as_slice());
     Ok(())
 }

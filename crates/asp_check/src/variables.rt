@@ -12,7 +12,9 @@ use std::alloc::Global;
 /// A variable of a rule. A name borrows its bytes.
 #[derive(Clone, Copy, Debug, PartialEq, Eq, Hash)]
 pub enum Variable<'a> {
+    /// A variable with these bytes as its name.
     Named(&'a [u8]),
+    /// A nameless variable, by its number in the rule.
     Anon(u32),
 }
 

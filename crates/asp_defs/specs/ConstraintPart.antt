@@ -1,5 +1,5 @@
--- The form of the constraint part: it has constraints alone (of this project; the paper also allows a stratified
--- program there). All definitions are transparent.
+-- The form of the constraint part: it has constraints alone (of this project; Amendola, Ricca and Truszczynski 2019 also
+-- allow a stratified program there). All definitions are transparent.
 use Rattle.std.specs.Prelude.{ℕ, suc, ◌+◌, Bool, true, false, List, [], ◌∷◌, length, Option, None, Some}
 use Rattle.std.specs.List.{flat_map}
 use Rattle.asp_defs.specs.declared.syntax.Head.{Head}

@@ -1,5 +1,5 @@
--- Instances of rules over a universe, and the ground rules that they give (of this project; the paper instantiates over
--- the Herbrand universe). All definitions are transparent.
+-- Instances of rules over a universe, and the ground rules that they give (of this project; Amendola, Ricca and
+-- Truszczynski 2019 instantiate over the Herbrand universe). All definitions are transparent.
 use Rattle.std.specs.Prelude.{ℕ, ◌^◌, ◌==◌, if◌then◌else◌, Bool, true, false, not, List, [], ◌∷◌, ◌++◌, map, length, get_or, replicate}
 use Rattle.std.specs.List.{flat_map, filter, list_all, position_or_len, sum_by}
 use Rattle.std.specs.Ordering.{is_eq, is_ne, is_lt, is_le, is_gt, is_ge}

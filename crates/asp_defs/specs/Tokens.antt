@@ -50,16 +50,15 @@ is_blank b = (b == 32) || ((b == 9) || ((b == 10) || (b == 13)))
 abbrev pub is_lower : ℕ → Bool
 is_lower b = nat_le 97 b && nat_le b 122
 
--- a letter of either case, a digit or an underscore
-abbrev pub is_name_byte : ℕ → Bool
-is_name_byte b =
-    is_lower b || ((nat_le 65 b && nat_le b 90) || ((nat_le 48 b && nat_le b 57) || (b == 95)))
-
 abbrev pub is_upper : ℕ → Bool
 is_upper b = nat_le 65 b && nat_le b 90
 
 abbrev pub is_digit : ℕ → Bool
 is_digit b = nat_le 48 b && nat_le b 57
+
+-- a letter of either case, a digit or an underscore
+abbrev pub is_name_byte : ℕ → Bool
+is_name_byte b = is_lower b || (is_upper b || (is_digit b || (b == 95)))
 
 -- the tokens that have one spelling, but for the minus
 abbrev pub signs : List (List ℕ × Token)

@@ -1,4 +1,4 @@
-// Worked examples of the definitions: each contract is computed. Atoms are numbered in their order from 0.
+//! Worked examples of the definitions: each contract is computed. Atoms are numbered in their order from 0.
 ghost use Rattle.std.specs.Prelude.{◌≡◌, true, false, [], ◌∷◌, None, Some, map, length, pos, negsuc, codes};
 ghost use Rattle.asp_defs.specs.declared.faults.Kind.TheVariants.{Search};
 ghost use Rattle.asp_defs.specs.declared.ground.Const.TheVariants.{Int, Sym};

@@ -1,4 +1,4 @@
-// Worked examples of the definitions of texts, words and output: each contract is computed.
+//! Worked examples of the definitions of texts, words and output: each contract is computed.
 ghost use Rattle.std.specs.Prelude.{◌≡◌, ◌∷◌, ◌++◌, [], ◌+◌, pos, negsuc, codes, length, map, replicate, true, false, None, Some, Ok, Err};
 ghost use Rattle.asp_defs.specs.declared.faults.TextFault.TheVariants as faults;
 ghost use Rattle.asp_defs.specs.declared.faults.Form.TheVariants.{Strong, Bounds};

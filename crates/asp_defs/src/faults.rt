@@ -1,3 +1,6 @@
+ghost use Rattle.std.specs.Prelude.{◌≡◌};
+ghost use Rattle.asp_defs.specs.Limits.{limit, past_limit};
+
 use crate::list::Name;
 use std::alloc::AllocError;
 use thiserror::Error;
@@ -63,21 +66,63 @@ impl From<AllocError> for TextFault {
 /// A variable of a rule: a named one, or one of its nameless ones.
 #[derive(Debug, Drop)]
 pub enum Var {
+    /// The variable of that name.
     Named(Name),
+    /// A nameless variable.
     Anon,
 }
 
 /// What a limit counts.
 #[derive(Debug, Clone, Copy, PartialEq, Eq)]
 pub enum Which {
+    /// The bytes of a text.
     Bytes,
+    /// The quantified levels of a program.
     Levels,
+    /// The arguments of an atom.
     Arguments,
+    /// The head atoms, elements, conditions and body literals of a rule.
     Literals,
+    /// The distinct variables of a rule.
     Variables,
+    /// The constants of the last universe.
     Constants,
+    /// The atoms of the last base.
     Atoms,
+    /// The instances of all rules, before comparisons are looked at.
     Instances,
+}
+
+/// The greatest count that a refusal shows.
+const MOST_SHOWN: u64 = 1_000_000_000_000_000_000;
+
+impl Which {
+    /// The greatest count that the limit allows.
+    pub fn limit(self) -> u64
+        ensures { result ≡ limit self }
+    {
+        match self {
+            Which::Bytes => 1_048_576,
+            Which::Levels => 16,
+            Which::Arguments => 16,
+            Which::Literals => 64,
+            Which::Variables => 16,
+            Which::Constants => 4_096,
+            Which::Atoms => 262_144,
+            Which::Instances => 4_000_000,
+        }
+    }
+
+    /// A count that passes the limit, as a refusal shows it: at most 10^18.
+    pub fn past_limit(self, count: u64) -> Option<(Which, u64)>
+        ensures { result ≡ past_limit self count }
+    {
+        if count > self.limit() {
+            Some((self, count.min(MOST_SHOWN)))
+        } else {
+            None
+        }
+    }
 }
 
 /// Why a program gives no game.
@@ -102,12 +147,14 @@ impl From<AllocError> for SizeFault {
     }
 }
 
-/// Which budget a search has spent: placements of the search for candidates or of the minimality check, or the
-/// cells of the store.
+/// Which budget a search has spent.
 #[derive(Debug, Clone, Copy, PartialEq, Eq)]
 pub enum Kind {
+    /// Placements of the search for candidates.
     Search,
+    /// Placements of the minimality check.
     Minimal,
+    /// Cells of the store.
     Store,
 }
 

@@ -1,4 +1,4 @@
-// Laws of the definitions: each contract is one, and each body is empty.
+//! Laws of the definitions: each contract is one, and each body is empty.
 ghost use Rattle.asp_defs.specs.Laws.{AnswerSetsAreModels, AnswerSetsAreMinimal, AnswerSetsAreFounded, JustificationsStay, JustifiedIsSound, LegalIsSound, PrefixesAreLegal, CellsAreBounded};
 
 /// An answer set satisfies the rules.

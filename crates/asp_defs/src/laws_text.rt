@@ -1,4 +1,4 @@
-// Laws of texts, and derivations of texts and refusals: each contract is one, and each body is empty.
+//! Laws of texts, and derivations of texts and refusals: each contract is one, and each body is empty.
 ghost use Rattle.std.specs.Prelude.{codes, []};
 ghost use Rattle.asp_defs.specs.declared.faults.Form.TheVariants.{Strong, Bounds};
 ghost use Rattle.asp_defs.specs.declared.faults.TextFault.TheVariants as faults;

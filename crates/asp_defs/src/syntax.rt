@@ -1,20 +1,31 @@
+ghost use Rattle.std.specs.Prelude.{◌≡◌};
+ghost use Rattle.asp_defs.specs.ConstraintPart.{is_constraint};
+
 use crate::list::{List, Name};
 
 /// The quantifier of a level: some answer set of its rules, or every one.
 #[derive(Debug, Clone, Copy, PartialEq, Eq)]
 pub enum Quant {
+    /// Some answer set.
     Exists,
+    /// Every answer set.
     Forall,
 }
 
 /// A comparison of two terms.
 #[derive(Debug, Clone, Copy, PartialEq, Eq)]
 pub enum Op {
+    /// Equal, `=`.
     Eq,
+    /// Unequal, `!=` or `<>`.
     Ne,
+    /// Less, `<`.
     Lt,
+    /// Less or equal, `<=`.
     Le,
+    /// Greater, `>`.
     Gt,
+    /// Greater or equal, `>=`.
     Ge,
 }
 
@@ -43,8 +54,11 @@ pub struct Atom {
 /// A member of a body.
 #[derive(Debug, Drop)]
 pub enum Literal {
+    /// An atom.
     Pos(Atom),
+    /// An atom behind `not`.
     Neg(Atom),
+    /// A comparison.
     Cmp(Term, Op, Term),
 }
 
@@ -58,7 +72,9 @@ pub struct Element {
 /// The head of a rule. An empty disjunction makes the rule a constraint.
 #[derive(Debug, Drop)]
 pub enum Head {
+    /// A disjunction of atoms.
     Disj(List<Atom>),
+    /// A choice of elements.
     Choice(List<Element>),
 }
 
@@ -67,6 +83,18 @@ pub enum Head {
 pub struct Rule {
     pub head: Head,
     pub body: List<Literal>,
+}
+
+impl Rule {
+    /// Whether the rule is a constraint: its head is a disjunction of no atoms.
+    pub fn is_constraint(&self) -> bool
+        ensures { result ≡ is_constraint self.now }
+    {
+        match &self.head {
+            Head::Disj(atoms) => atoms.is_empty(),
+            Head::Choice(_) => false,
+        }
+    }
 }
 
 /// A level: a quantifier over the answer sets of its rules.

@@ -1,4 +1,4 @@
-// Laws of the machine and examples: each contract is one, and each body is empty.
+//! Laws of the machine and examples: each contract is one, and each body is empty.
 ghost use Rattle.std.specs.Prelude.{◌≡◌, Ok, Err, codes};
 ghost use Rattle.asp_defs.specs.declared.faults.TextFault.TheVariants as faults;
 ghost use Rattle.asp_defs.specs.TextExamples as texts;

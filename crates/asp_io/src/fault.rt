@@ -1,4 +1,4 @@
-// The errors of reading and writing.
+//! The errors of reading and writing.
 ghost use Rattle.std.specs.Prelude.{◌≡◌};
 ghost use Rattle.asp_io.specs.declared.fault.ReadFault.TheVariants.{Failed as SourceFailed, NoMemory};
 

@@ -1,4 +1,4 @@
-// Sources and a sink in memory, whose calls move few bytes and fail where a list says so.
+//! Sources and a sink in memory, whose calls move few bytes and fail where a list says so.
 mod calls;
 mod mem_sink;
 mod mem_source;

@@ -1,4 +1,4 @@
-// The trait of sinks, and the loop that writes all of some bytes to one.
+//! The trait of sinks, and the loop that writes all of some bytes to one.
 ghost use Rattle.std.specs.Prelude.{◌≡◌, ◌<◌, [], List, ℕ, length, Option, IfOk, OnOk, OnErr};
 ghost use Rattle.std.specs.Io.{WritesAtMost};
 ghost use Rattle.std.specs.Io.KnownBytes.{Appends, WriteAppends};

@@ -1,4 +1,4 @@
-// What a caller meets: bytes that come in pieces, faults in the middle, limits that are met exactly.
+//! What a caller meets: bytes that come in pieces, faults in the middle, limits that are met exactly.
 use crate::{MemSink, MemSource, SureSource, read_all, write_all};
 use std::test::Fail;
 

@@ -2,8 +2,7 @@
 ghost use Rattle.std.specs.Prelude.{◌≡◌, ◌≤◌, ◌∷◌, [], false, length, min, take, option_map, None, IfSome, IsTrue};
 ghost use Rattle.std.specs.List.{list_all, prefix_len};
 ghost use Rattle.std.specs.Str.Parse.{digits_value};
-ghost use Rattle.asp_defs.specs.Tokens.{is_upper, is_digit, sign_shape, word_token};
-ghost use Rattle.asp_defs.specs.Tokens.{is_blank, is_lower, is_name_byte};
+ghost use Rattle.asp_defs.specs.Tokens.{is_blank, is_lower, is_upper, is_digit, is_name_byte, sign_shape, word_token};
 ghost use Rattle.asp_lex.specs.Fronts.{
   IsFront,
   number_shape,
@@ -24,16 +23,22 @@ use crate::tokens::Tok;
 pub enum Shape {
     /// A blank or a comment.
     Gap,
+    /// A token of this kind.
     Token(Tok),
+    /// A byte that begins nothing.
     BadByte,
+    /// A number that 32 bits don't hold.
     BadNumber,
+    /// A block comment without an end.
     OpenComment,
 }
 
 /// A piece: what it is, and how many bytes it has.
 #[derive(Clone, Copy)]
 pub struct Piece {
+    /// What it is.
     pub shape: Shape,
+    /// The count of its bytes.
     pub len: usize,
 }
 

@@ -1,10 +1,11 @@
 -- The texts of lists and rules that aren't empty.
-use Rattle.std.proofs.Common.{◌≡◌, ◌↔◌, refl, IsTrue, Bool, false, List, [], ◌∷◌, ◌++◌, ℕ, codes}
+use Rattle.std.proofs.Common.{◌≡◌, ◌∙◌, ap, ◌↔◌, refl, IsTrue, Bool, true, false, List, [], ◌∷◌, ◌++◌, ℕ, codes}
 use Rattle.std.specs.List.{flat_map, join_by}
 use Rattle.asp_defs.specs.declared.syntax.Literal.{Literal}
 use Rattle.asp_defs.specs.declared.syntax.Head.{Head}
 use Rattle.asp_defs.specs.declared.syntax.Head.TheVariants.{Disj, Choice}
 use Rattle.asp_defs.specs.declared.syntax.Rule.{Rule}
+use Rattle.asp_defs.specs.ConstraintPart.{is_no_head}
 use Rattle.asp_defs.specs.Lines.{line}
 use Rattle.asp_defs.specs.Canonical.{applied_text, behind_sign, literals_text, statement_text, headed_text, rule_line, constraint_part_text}
 
@@ -20,10 +21,20 @@ pub behind_some : (sign : List ℕ) (body : List Literal) → (body ≡ [] → �
 behind_some sign [] some = absurd (some refl)
 behind_some sign (l ∷ body) some = refl
 
+-- the statement of a constraint, and of a rule with a head
+pub headless : (head : Head) (body : List Literal) (b : Bool) → b ≡ is_no_head head → b ≡ true → codes ":- " ++ literals_text body ≡ statement_text head body
+headless (Disj []) body b same holds = refl
+headless (Disj (a ∷ atoms)) body b same holds = let fails : b ≡ false = same in absurd (cc)
+headless (Choice elements) body b same holds = let fails : b ≡ false = same in absurd (cc)
+
 pub headed : (head : Head) (body : List Literal) → (head ≡ Disj [] → ⊥) → headed_text head body ≡ statement_text head body
 headed (Disj []) body some = absurd (some refl)
 headed (Disj (a ∷ atoms)) body some = refl
 headed (Choice elements) body some = refl
+
+-- what a false test for a constraint says
+pub has_head : (head : Head) (b : Bool) → b ≡ is_no_head head → b ≡ false → head ≡ Disj [] → ⊥
+has_head head b same fails none = let holds : b ≡ true = same ∙ ap is_no_head none in absurd (cc)
 
 pub constraint_part_some : (rules : List Rule) → (rules ≡ [] → ⊥) → line (codes "%@constraint") ++ flat_map rule_line rules ≡ constraint_part_text rules
 constraint_part_some [] some = absurd (some refl)

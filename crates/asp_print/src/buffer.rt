@@ -1,4 +1,4 @@
-// Bytes on their way to a sink, gathered so that few calls reach it.
+//! Bytes on their way to a sink, gathered so that few calls reach it.
 ghost use Rattle.std.specs.Prelude.{◌≡◌, []};
 ghost use Rattle.asp_print.specs.Written.{Writes};
 

@@ -1,4 +1,4 @@
-// The lines of refusals, of verdicts, of pages and of the demonstration.
+//! The lines of refusals, of verdicts, of pages and of the demonstration.
 ghost use Rattle.std.specs.Prelude.{◌≡◌, ◌++◌, codes, decimal, OnOk, OnErr};
 ghost use Rattle.std.specs.Io.KnownBytes.{Appends};
 ghost use Rattle.asp_io.specs.Causes.{HasCause};

@@ -1,4 +1,4 @@
-// The pieces that texts are made of: bytes, numbers, and lists of parts.
+//! The pieces that texts are made of: bytes, numbers, and lists of parts.
 ghost use Rattle.std.specs.Prelude.{List as Sequence, ℕ, ◌++◌, decimal};
 ghost use Rattle.std.specs.Fmt.{signed_decimal};
 ghost use Rattle.std.specs.List.{flat_map, join_by};

@@ -1,5 +1,5 @@
-// The canonical text of a program.
-ghost use Rattle.std.specs.Prelude.{◌≡◌, ◌↔◌, ◌++◌, [], codes, IsTrue, OnOk, OnErr};
+//! The canonical text of a program.
+ghost use Rattle.std.specs.Prelude.{◌≡◌, ◌++◌, codes, OnOk, OnErr};
 ghost use Rattle.std.specs.Io.KnownBytes.{Appends};
 ghost use Rattle.asp_io.specs.Causes.{HasCause};
 ghost use Rattle.asp_io.specs.Moved.{AppendsPrefix};
@@ -90,7 +90,7 @@ fn print_statement<K: Sink>(sink: &mut K, buffer: &mut Buffer, rule: &Rule) -> R
     ensures { Writes (K.taken sink.old) (K.taken sink.new) buffer.old.items buffer.new.items (K.faults sink.old) (K.faults sink.new)
         result (statement_text rule.now.head rule.now.body) }
 {
-    if is_empty(&rule.head) {
+    if rule.is_constraint() {
         print_constraint(sink, buffer, &rule.body)
     } else {
         print_headed(sink, buffer, &rule.head, &rule.body)
@@ -122,16 +122,6 @@ fn print_headed<K: Sink>(
 {
     head.print(sink, buffer)?;
     print_behind(sink, buffer, b" :- ", body)
-}
-
-/// Whether the head is that of a constraint.
-fn is_empty(head: &Head) -> bool
-    ensures { IsTrue result ↔ (head.now ≡ Head.Disj []) }
-{
-    match head {
-        Head::Disj(atoms) => atoms.is_empty(),
-        Head::Choice(_) => false,
-    }
 }
 
 impl Printed for Head {

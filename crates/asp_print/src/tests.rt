@@ -1,4 +1,4 @@
-// What is printed, against texts that were written by hand.
+//! What is printed, against texts that were written by hand.
 ghost use Rattle.std.specs.Prelude.{◌<◌};
 
 use crate::{Line, print_line, print_program};

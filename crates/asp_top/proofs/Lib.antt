@@ -9,3 +9,4 @@ pub mod Subsets
 pub mod Minimal
 pub mod Repeated
 pub mod Unique
+pub mod Existence

@@ -1,13 +1,13 @@
 -- The rules of a plain program.
-use Rattle.std.proofs.Common.{◌≡◌, ◌<◌, ◌≤◌, ℕ, Bool, true, ◌&&◌, List, [], ◌∷◌, length, refl, sym, ap, ap₂, ◌∙◌, subst}
-use Rattle.std.specs.Prelude.{IsTrue, IfOk, Result, Ok, Err}
+use Rattle.std.proofs.Common.{◌≡◌, ℕ, List, [], ◌∷◌, refl, sym, ap, ap₂, ◌∙◌, subst}
+use Rattle.std.specs.Prelude.{IfOk, Result, Ok, Err}
 use Rattle.asp_defs.specs.declared.syntax.Quant.{Quant}
 use Rattle.asp_defs.specs.declared.syntax.Quant.TheVariants.{Exists}
 use Rattle.asp_defs.specs.declared.syntax.Part.{Part}
 use Rattle.asp_defs.specs.declared.syntax.Program.{Program}
 use Rattle.asp_defs.specs.declared.syntax.Rule.{Rule}
 use Rattle.asp_defs.specs.Checks.{IsCheckedText}
-use Rattle.asp_defs.specs.PlainPrograms.{one_level, are_plain}
+use Rattle.asp_defs.specs.PlainPrograms.{one_level}
 use Rattle.asp_top.specs.declared.words.Command.{Command}
 use Rattle.asp_top.specs.declared.words.Command.TheVariants.{Solve}
 use Rattle.asp_top.specs.declared.answer.Answer.{Answer}

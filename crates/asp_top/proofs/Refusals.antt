@@ -1,5 +1,5 @@
 -- Which line a refused text has.
-use Rattle.std.proofs.Common.{◌≡◌, ◌<◌, ℕ, List, length, refl}
+use Rattle.std.proofs.Common.{◌<◌, ℕ, List, length, refl}
 use Rattle.std.specs.Prelude.{◌≢◌}
 use Rattle.asp_check.specs.declared.checks.CheckFault.{CheckFault}
 use Rattle.asp_check.specs.declared.checks.CheckFault.TheVariants as check

@@ -1,5 +1,5 @@
 -- The bytes that were taken of a source, and what is right of them.
-use Rattle.std.proofs.Common.{◌≡◌, ◌<◌, ◌≤◌, ℕ, List, length, take, drop, take_all, length-take, ap, ◌∙◌, subst, inl, inr, arith}
+use Rattle.std.proofs.Common.{◌≡◌, ◌<◌, ◌≤◌, ◌+◌, ℕ, List, length, take, drop, take_all, length-take, ap, ◌∙◌, subst, inl, inr, arith}
 use Rattle.std.specs.Prelude.{Option, Some, None, min}
 use Rattle.std.proofs.lemmas.Bool.{cases_lt}
 use Rattle.asp_defs.specs.declared.syntax.Program.{Program}
@@ -31,6 +31,11 @@ rest_left before now most taken bytes h told =
     go : (o : Option (List ℕ)) → TakesFirst (Some bytes) o most taken → o ≡ Some (drop most bytes)
     go None k = absurd k
     go (Some rest) k = ap Some k.1
+
+-- a byte more than the limit on bytes is asked for
+pub taken_of_text : (limit : ℕ) (before now : Option (List ℕ)) (taken : List ℕ)
+    → limit ≡ 1048576 → TakesFirst before now (limit + 1) taken → TakesFirst before now 1048577 taken
+taken_of_text limit before now taken same h = subst (λ (n : ℕ). TakesFirst before now (n + 1) taken) same h
 
 -- what was taken of bytes, where it may be more than a text has
 module _ (bytes taken : List ℕ) (first : taken ≡ take 1048577 bytes) where

@@ -1,13 +1,11 @@
 -- There is one answer at most to words and bytes.
 use Rattle.std.proofs.Common.{◌≡◌, ◌<◌, ◌≤◌, ℕ, Bool, true, false, List, length, refl, sym, ap, ◌∙◌, subst, inl, inr, arith}
-use Rattle.std.specs.Prelude.{Option, Some, None, is_none, Result, Ok, Err, IsTrue}
-use Rattle.asp_defs.specs.declared.faults.TextFault.{TextFault}
+use Rattle.std.specs.Prelude.{Some, is_none, Ok, Err, IsTrue}
 use Rattle.asp_defs.specs.declared.syntax.Program.{Program}
-use Rattle.asp_defs.specs.declared.syntax.Rule.{Rule}
 use Rattle.asp_defs.specs.Canonical.{program_text}
 use Rattle.asp_defs.specs.Checks.{CheckRefusal, check_refusal, IsCheckedText}
 use Rattle.asp_defs.specs.Lines.{word_line, text_fault_line, check_refusal_line, coherent_line, incoherent_line}
-use Rattle.asp_defs.specs.PlainPrograms.{one_level, are_plain, is_coherent}
+use Rattle.asp_defs.specs.PlainPrograms.{one_level, is_coherent}
 use Rattle.asp_defs.proofs.TextRefutations.{clash}
 use Rattle.asp_defs.proofs.TextsApart.{texts_are_unambiguous, texts_are_not_refused, refusals_are_unique}
 use Rattle.asp_top.specs.declared.status.Status.{Status}

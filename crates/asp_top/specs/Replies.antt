@@ -1,6 +1,5 @@
 -- What a run says of a text. All definitions are transparent.
 use Rattle.std.specs.Prelude.{◌≡◌, ℕ, true, false, List}
-use Rattle.asp_defs.specs.declared.syntax.Program.{Program}
 use Rattle.asp_defs.specs.declared.faults.TextFault.{TextFault}
 use Rattle.asp_defs.specs.declared.faults.TextFault.TheVariants as text
 use Rattle.asp_defs.specs.Checks.{IsCheckedText}
@@ -8,7 +7,6 @@ use Rattle.asp_defs.specs.Lines.{coherent_line, incoherent_line}
 use Rattle.asp_defs.specs.Canonical.{program_text}
 use Rattle.asp_check.specs.declared.checks.CheckFault.{CheckFault}
 use Rattle.asp_check.specs.declared.checks.CheckFault.TheVariants as check
-use Rattle.asp_print.specs.declared.line.Line.{Line}
 use Rattle.asp_print.specs.declared.line.Line.TheVariants as line
 use Rattle.asp_print.specs.LineTexts.{line_text}
 use Rattle.asp_top.specs.declared.refusal.Refusal.{Refusal}

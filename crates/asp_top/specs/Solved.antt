@@ -1,5 +1,5 @@
 -- What is said of a program that passed the checks. All definitions are transparent.
-use Rattle.std.specs.Prelude.{◌≡◌, Bool, IsTrue, List}
+use Rattle.std.specs.Prelude.{◌≡◌, IsTrue, List}
 use Rattle.std.specs.List.{list_all}
 use Rattle.asp_defs.specs.declared.syntax.Rule.{Rule}
 use Rattle.asp_defs.specs.declared.syntax.Program.{Program}

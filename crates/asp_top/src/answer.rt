@@ -1,4 +1,4 @@
-// What a run has to say of a text, and how it is written.
+//! What a run has to say of a text, and how it is written.
 ghost use Rattle.std.specs.Prelude.{◌≡◌, OnOk, OnErr};
 ghost use Rattle.std.specs.Io.KnownBytes.{Appends};
 ghost use Rattle.asp_defs.specs.Lines.{word_line};

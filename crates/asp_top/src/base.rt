@@ -1,4 +1,4 @@
-// The names of rules, which are the base of their program.
+//! The names of rules, which are the base of their program.
 ghost use Rattle.std.specs.Prelude.{◌≡◌, ◌<◌, ◌≤◌, ◌∷◌, [], length, map, IfOk, OnOk};
 ghost use Rattle.std.specs.List.{flat_map};
 ghost use Rattle.asp_defs.specs.PlainPrograms.{with_name, names_of, most_names, literal_names, head_names, rule_names};

@@ -1,4 +1,4 @@
-// Whether plain rules have an answer set, by trying every set of their names.
+//! Whether plain rules have an answer set, by trying every set of their names.
 ghost use Rattle.std.specs.Prelude.{◌≡◌, ℕ, ◌+◌, ◌^◌, ◌<◌, ◌≤◌, List, length, IfOk, MatchBool};
 ghost use Rattle.std.specs.List.{list_all};
 ghost use Rattle.asp_defs.specs.PlainPrograms.{names_of, is_coherent};

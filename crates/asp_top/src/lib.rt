@@ -2,9 +2,9 @@
 //!
 //! In reading order: `status` has how a run ends, `words` reads the words, `refusal` has why a text is not accepted,
 //! `answer` has what a run has to say and writes it, `reply` finds it for the bytes of a source, `run` is the run, and
-//! `laws` says that no two answers are right. A plain program is answered by `solve`, for which `base` gathers the names
-//! of its rules, `masks` turns the rules into rules over sets of at most 16 names, and `coherent` tries every set of
-//! those names.
+//! `laws` says that there is one right answer to words and bytes. A plain program is answered by `solve`, for which
+//! `base` gathers the names of its rules, `masks` turns the rules into rules over sets of at most 16 names, and
+//! `coherent` tries every set of those names.
 #![tactic(auto)]
 
 mod answer;

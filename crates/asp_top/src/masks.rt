@@ -1,4 +1,4 @@
-// Rules over sets of names, where a set of at most 16 names is a mask: bit a is set where name a is a member.
+//! Rules over sets of names, where a set of at most 16 names is a mask: bit a is set where name a is a member.
 ghost use Rattle.std.specs.Prelude.{◌≡◌, ◌≤◌, ◌^◌, List, length, map, position, IfOk};
 ghost use Rattle.std.specs.Str.{bytes_eq};
 ghost use Rattle.std.specs.List.{flat_map};

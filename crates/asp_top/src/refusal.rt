@@ -1,4 +1,4 @@
-// Why a text is not accepted.
+//! Why a text is not accepted.
 use asp_check::CheckFault;
 use asp_defs::TextFault;
 use asp_print::Line;

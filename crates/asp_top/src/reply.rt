@@ -1,4 +1,4 @@
-// What a run has to say of the bytes of its source.
+//! What a run has to say of the bytes of its source.
 ghost use Rattle.std.specs.Prelude.{◌≡◌, ◌≤◌, ◌+◌, ℕ, List, Some, IfOk, IfErr, OnOk, IsErrOf, drop, length};
 ghost use Rattle.asp_defs.specs.Checks.{IsCheckedText};
 ghost use Rattle.asp_io.specs.Causes.{Rose};
@@ -14,9 +14,6 @@ use asp_io::{ReadFault, Source, read_all};
 use asp_print::Line;
 use asp_read::read;
 use std::alloc::{AllocError, Global};
-
-/// The most bytes that a text has.
-const MOST_BYTES: usize = 1_048_576;
 
 /// What the command has to say of the bytes that the source has left.
 ///
@@ -37,7 +34,7 @@ pub fn answer<S: Source>(
     ensures failed { IsErrOf result ReadFault.Failed → Rose (S.faults source.old) (S.faults source.new) }
     ensures memory { IsErrOf result ReadFault.NoMemory → S.faults source.new ≡ S.faults source.old }
 {
-    let bytes = read_all(alloc, source, MOST_BYTES as u64 + 1)?;
+    let bytes = read_all(alloc, source, Which::Bytes.limit() + 1)?;
     Ok(reply(alloc, command, bytes)?)
 }
 
@@ -61,8 +58,9 @@ fn accept(alloc: Global, bytes: Vec<u8>) -> Result<Checked, Refusal>
     ensures accepted { IfOk result (IsCheckedText bytes.items) }
     ensures refused { IfErr result (IsRefusedSo bytes.items) }
 {
-    if bytes.len() > MOST_BYTES {
-        return Err(Refusal::Text(Line::TooLarge(Which::Bytes, 1_048_577)));
+    let most = Which::Bytes.limit();
+    if bytes.len() as u64 > most {
+        return Err(Refusal::Text(Line::TooLarge(Which::Bytes, most + 1)));
     }
     let program = read(alloc, bytes.as_slice())?;
     Ok(check(alloc, program)?)

@@ -1,4 +1,4 @@
-// The run of the program.
+//! The run of the program.
 ghost use Rattle.std.specs.Prelude.{◌≡◌, ◌≢◌, ◌≤◌, ◌⊎◌, ℕ, List, Some, None, IsSome, IsTrue, drop, map, string_bytes};
 ghost use Rattle.asp_io.specs.Causes.{Rose};
 ghost use Rattle.asp_top.specs.Commands.{refused_word};

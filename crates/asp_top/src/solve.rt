@@ -1,4 +1,4 @@
-// Whether a program is coherent.
+//! Whether a program is coherent.
 ghost use Rattle.std.specs.Prelude.{◌≡◌, ◌≤◌, List, IfOk, IfSome, IfNone, IsTrue, length};
 ghost use Rattle.std.specs.List.{list_all};
 ghost use Rattle.asp_defs.specs.Lists.{is_empty};

@@ -1,4 +1,4 @@
-// How a run ends.
+//! How a run ends.
 ghost use Rattle.std.specs.Prelude.{◌≡◌};
 ghost use Rattle.asp_top.specs.Statuses.{code_of};
 

@@ -1,11 +1,14 @@
-// Runs over sources and sinks in memory, against answers that were found by hand.
+//! Runs over sources and sinks in memory, against answers that were found by hand.
 ghost use Rattle.std.specs.Prelude.{◌<◌};
 
 mod examples;
+mod faults;
+mod language;
 
 use crate::{Status, run_single};
 use asp_io::{MemSink, MemSource};
 use examples::EXAMPLES;
+use language::{FORMS, REFUSED, VARIABLES};
 use std::alloc::{AllocError, Global};
 use std::process::Abort;
 use std::test::Fail;
@@ -50,12 +53,16 @@ fn run_rows(rt: &impl Abort, alloc: Global, rows: &[Row]) -> Result<(), AllocErr
 }
 
 /// Words, refusals of texts in their order, and the text that `check` prints.
-const WORKED: [Row; 19] = [
+const WORKED: [Row; 23] = [
     ("", "%@exists", "aspq: word 1 refused\n", 2),
     ("prove", "%@exists", "aspq: word 1 refused\n", 2),
     ("Check", "%@exists", "aspq: word 1 refused\n", 2),
     ("solve solve", "%@exists", "aspq: word 2 refused\n", 2),
     ("check --log", "%@exists", "aspq: word 2 refused\n", 2),
+    ("list", "%@exists", "aspq: word 1 refused\n", 2),
+    ("demo 3", "%@exists", "aspq: word 1 refused\n", 2),
+    ("solve --log", "%@exists", "aspq: word 2 refused\n", 2),
+    ("solve --budget=1", "%@exists", "aspq: word 2 refused\n", 2),
     ("solve", "", "aspq: no level\n", 3),
     (
         "check",
@@ -113,7 +120,7 @@ const WORKED: [Row; 19] = [
 ];
 
 /// Verdicts on plain programs, and what isn't solved yet.
-const SOLVED: [Row; 25] = [
+const SOLVED: [Row; 31] = [
     (
         "solve",
         "%@exists\na :- not b.\nb :- not a.\n",
@@ -156,6 +163,33 @@ const SOLVED: [Row; 25] = [
         "aspq: not yet\n",
         3,
     ),
+    (
+        "solve",
+        "%@exists a:-not b. b:-not a. c:-not d. d:-not c. e:-not f. f:-not e. g:-not h. h:-not g. i:-not j. j:-not i. k:-not l. l:-not k. m:-not n. n:-not m. o:-not p. p:-not o.",
+        "COHERENT\n",
+        10,
+    ),
+    (
+        "solve",
+        "%@exists a:-not b. b:-not a. c:-not d. d:-not c. e:-not f. f:-not e. g:-not h. h:-not g. i:-not j. j:-not i. k:-not l. l:-not k. m:-not n. n:-not m. o:-not p. p:-not o. :-a. :-b.",
+        "INCOHERENT\n",
+        20,
+    ),
+    (
+        "solve",
+        "%@exists a:-not b. b:-not a. c:-not d. d:-not c. e:-not f. f:-not e. g:-not h. h:-not g. i:-not j. j:-not i. k:-not l. l:-not k. m:-not n. n:-not m. o:-not p. p:-not o. q.",
+        "aspq: not yet\n",
+        3,
+    ),
+    (
+        "solve",
+        "%@exists%@exists%@exists%@exists%@exists%@exists%@exists%@exists\
+        %@forall%@forall%@forall%@forall%@forall%@forall%@forall%@forall",
+        "aspq: not yet\n",
+        3,
+    ),
+    ("solve", "%@exists é.", "aspq: bad byte at 9\n", 3),
+    ("solve", "%@exists a. % é\n", "COHERENT\n", 10),
     (
         "solve",
         "% loop\n%@exists\na :- not b. %* %@forall *%\nb :- not a. % end",
@@ -425,6 +459,16 @@ fn judges_safety(rt: HostRuntime) -> Result<(), Fail> {
     Ok(run_rows(&rt, rt.alloc(), &SAFETY)?)
 }
 
+#[test]
+fn prints_further_forms(rt: HostRuntime) -> Result<(), Fail> {
+    Ok(run_rows(&rt, rt.alloc(), &FORMS)?)
+}
+
+#[test]
+fn judges_further_variables(rt: HostRuntime) -> Result<(), Fail> {
+    Ok(run_rows(&rt, rt.alloc(), &VARIABLES)?)
+}
+
 /// Texts, and why they are refused, for their tokens and for their directives.
 const REFUSED_PARTS: [(&str, &str); 25] = [
     ("", "no level"),
@@ -530,6 +574,11 @@ fn refuses_statements(rt: HostRuntime) -> Result<(), Fail> {
     Ok(refuse_rows(&rt, rt.alloc(), &REFUSED_STATEMENTS)?)
 }
 
+#[test]
+fn refuses_further_texts(rt: HostRuntime) -> Result<(), Fail> {
+    Ok(refuse_rows(&rt, rt.alloc(), &REFUSED)?)
+}
+
 /// The name of a limit, and the canonical text of a program that reaches it: what stands first, what is repeated until
 /// the limit is reached, how often, and what stands last.
 const LIMITS: [(&str, &str, &str, u32, &str); 7] = [
@@ -583,37 +632,90 @@ fn accepts_up_to_each_limit(rt: HostRuntime) -> Result<(), Fail> {
         let (status, sink) = run_bytes(alloc, "check", text.as_slice().to_vec(alloc)?, 9)?;
         assert_eq!(rt; status, Status::Done, "{name}");
         assert_eq!(rt; sink.taken(), text.as_slice(), "{name}");
-        let text = repeated(alloc, first, part, count + 1, last)?;
-        let (status, sink) = run_bytes(alloc, "check", text, 9)?;
-        let past = past_limit(name);
-        let line = format!(in alloc; "aspq: too large: {name} {past}\n")?;
-        assert_eq!(rt; status, Status::Text, "{name}");
-        assert_eq!(rt; sink.taken(), line.as_bytes(), "{name}");
     }
     Ok(())
 }
 
-/// The words, how a text begins that blanks bring to the greatest length, and its output.
-const LONG: [(&str, &str, &str); 3] = [
-    ("solve", "", "aspq: no level\n"),
-    ("solve", "%@exists", "COHERENT\n"),
-    ("check", "%@exists", "%@exists\n"),
+/// Runs a text that passes a limit by one.
+fn refuses_past(
+    rt: &impl Abort,
+    alloc: Global,
+    words: &str,
+    name: &str,
+    text: Vec<u8>,
+) -> Result<(), AllocError> {
+    let (status, sink) = run_bytes(alloc, words, text, 9)?;
+    let past = past_limit(name);
+    let line = format!(in alloc; "aspq: too large: {name} {past}\n")?;
+    assert_eq!(rt; status, Status::Text, "{words}: {name}");
+    assert_eq!(rt; sink.taken(), line.as_bytes(), "{words}: {name}");
+    Ok(())
+}
+
+#[test]
+fn refuses_past_each_limit(rt: HostRuntime) -> Result<(), Fail> {
+    let alloc = rt.alloc();
+    for (name, first, part, count, last) in LIMITS {
+        let text = repeated(alloc, first, part, count + 1, last)?;
+        refuses_past(&rt, alloc, "check", name, text.as_slice().to_vec(alloc)?)?;
+        refuses_past(&rt, alloc, "solve", name, text)?;
+    }
+    Ok(())
+}
+
+/// The words, how a text begins that blanks bring to the greatest length, its output and the exit status.
+const LONG: [Row; 3] = [
+    ("solve", "", "aspq: no level\n", 3),
+    ("solve", "%@exists", "COHERENT\n", 10),
+    ("check", "%@exists", "%@exists\n", 0),
 ];
 
 #[test]
 fn refuses_a_text_that_is_too_long(rt: HostRuntime) -> Result<(), Fail> {
     let alloc = rt.alloc();
-    for (words, text, output) in LONG {
-        for (count, output) in [
-            (1_048_576, output),
-            (1_048_577, "aspq: too large: bytes 1048577\n"),
+    for (words, text, output, code) in LONG {
+        for (count, output, code) in [
+            (1_048_576, output, code),
+            (1_048_577, "aspq: too large: bytes 1048577\n", 3),
         ] {
             let mut bytes = text.as_bytes().to_vec(alloc)?;
             bytes.resize(count, b' ')?;
-            let (_, sink) = run_bytes(alloc, words, bytes, 60_000)?;
+            let (status, sink) = run_bytes(alloc, words, bytes, 60_000)?;
             assert_eq!(rt; sink.taken(), output.as_bytes(), "{words}: {count}");
+            assert_eq!(rt; status.code(), code, "{words}: {count}");
         }
     }
+    Ok(())
+}
+
+/// The canonical text of the first example.
+const CONFORMANT_PLAN: &str = "%@exists\n\
+    cell(1..3).\n\
+    time(1..2).\n\
+    next(1,2).\n\
+    next(2,3).\n\
+    step(left,1,1).\n\
+    step(left,2,1).\n\
+    step(left,3,2).\n\
+    step(right,1,2).\n\
+    step(right,2,3).\n\
+    step(right,3,3).\n\
+    {plan(D,T) : step(D,_,_)} :- time(T).\n\
+    :- time(T), not plan(left,T), not plan(right,T).\n\
+    :- plan(left,T), plan(right,T).\n\
+    %@forall\n\
+    at(1,1) | at(2,1) | at(3,1).\n\
+    at(C,U) :- at(B,T), next(T,U), plan(D,T), step(D,B,C).\n\
+    %@constraint\n\
+    :- not at(1,3).\n";
+
+#[test]
+fn prints_an_example(rt: HostRuntime) -> Result<(), Fail> {
+    let alloc = rt.alloc();
+    let bytes = EXAMPLES[0].as_bytes().to_vec(alloc)?;
+    let (status, sink) = run_bytes(alloc, "check", bytes, 60_000)?;
+    assert_eq!(rt; status, Status::Done);
+    assert_eq!(rt; sink.taken(), CONFORMANT_PLAN.as_bytes());
     Ok(())
 }
 
@@ -629,57 +731,5 @@ fn prints_texts_that_are_printed_as_they_stand(rt: HostRuntime) -> Result<(), Fa
         assert_eq!(rt; status, Status::Done, "{text}");
         assert_eq!(rt; second.taken(), first.taken());
     }
-    Ok(())
-}
-
-/// Runs with a source that gives a byte a call and a sink that takes one and whose call number `failing` fails.
-fn run_failing(
-    alloc: Global,
-    words: &str,
-    text: &str,
-    failing: u32,
-) -> Result<(Status, MemSink), AllocError> {
-    let words = words_of(alloc, words)?;
-    let text = text.as_bytes().to_vec(alloc)?;
-    let mut source = MemSource::new(text, 1, Vec::new(alloc));
-    let mut sink = MemSink::new(alloc, 100, 1, [failing].to_vec(alloc)?)?;
-    let ended = run_single(alloc, words.as_slice(), &mut source, &mut sink);
-    Ok((ended.status, sink))
-}
-
-/// Words and the outputs over one text.
-const OUTPUTS: [(&str, &str); 3] = [
-    ("solve", "COHERENT\n"),
-    ("check", "%@exists\na :- not b.\nb :- not a.\n"),
-    ("", "aspq: word 1 refused\n"),
-];
-
-#[test]
-fn stops_where_the_sink_fails(rt: HostRuntime) -> Result<(), Fail> {
-    let alloc = rt.alloc();
-    let text = "%@exists\na :- not b.\nb :- not a.\n";
-    for (words, output) in OUTPUTS {
-        let mut failing = 1u32;
-        for held in 0..output.len() {
-            let (status, sink) = run_failing(alloc, words, text, failing)?;
-            assert_eq!(rt; status, Status::Write);
-            assert_eq!(rt; sink.taken().len(), held);
-            assert!(rt; output.as_bytes().starts_with(sink.taken()));
-            failing = failing.saturating_add(1);
-        }
-    }
-    Ok(())
-}
-
-#[test]
-fn stops_where_the_source_fails(rt: HostRuntime) -> Result<(), Fail> {
-    let alloc = rt.alloc();
-    let words = words_of(alloc, "solve")?;
-    let bytes = b"%@exists\na :- not b.\nb :- not a.\n".to_vec(alloc)?;
-    let mut source = MemSource::new(bytes, 4, [2].to_vec(alloc)?);
-    let mut sink = MemSink::new(alloc, 100, 1, Vec::new(alloc))?;
-    let ended = run_single(alloc, words.as_slice(), &mut source, &mut sink);
-    assert_eq!(rt; ended.status, Status::Read);
-    assert_eq!(rt; sink.taken().len(), 0);
     Ok(())
 }

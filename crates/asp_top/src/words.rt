@@ -1,4 +1,4 @@
-// The words of a command.
+//! The words of a command.
 ghost use Rattle.std.specs.Prelude.{◌≡◌, map, string_bytes};
 ghost use Rattle.asp_top.specs.Commands.{command_of, alone as alone_of};
 

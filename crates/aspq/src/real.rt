@@ -1,4 +1,4 @@
-// Standard input and output as a source and a sink. They tell no bytes, so that nothing is claimed of the outside.
+//! Standard input and output as a source and a sink. They tell no bytes, so that nothing is claimed of the outside.
 ghost use Rattle.std.specs.Prelude.{None};
 
 use asp_io::{Failed, Sink, Source};

@@ -1,4 +1,4 @@
-// The calls that a form in memory was asked for, and which of them fail.
+//! The calls that a form in memory was asked for, and which of them fail.
 ghost use Rattle.std.specs.Prelude.{◌≡◌, ◌≤◌, ◌↔◌, IsTrue, Contains};
 ghost use Rattle.asp_io.specs.Memory.{next_count, one_more};
 

@@ -1,4 +1,4 @@
-// Bytes in memory that are given out from the front.
+//! Bytes in memory that are given out from the front.
 ghost use Rattle.std.specs.Prelude.{◌≡◌, ◌<◌, ◌≤◌, ◌++◌, [], length, take};
 ghost use Rattle.asp_io.specs.Memory.{moved_count};
 

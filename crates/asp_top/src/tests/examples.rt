@@ -1,4 +1,5 @@
-// The texts of the repository's examples, in the order of their names.
+//! The texts of the repository's folder `examples`, in the order of their names: a test can't read files, so a change of
+//! one is made here too.
 
 pub const EXAMPLES: [&str; 9] = [
     "% A robot stands in one of three cells of a corridor and can't see which one. A step takes it to the next cell on the
@@ -38,19 +39,19 @@ leaves(3,1,2). leaves(3,2,1).
 leaves(2,1,1). leaves(2,2,0).
 leaves(1,1,0).
 first(1) | first(2).
-heap(1,S) :- first(T), leaves(4,T,S).
+after_first(S) :- first(T), leaves(4,T,S).
 
 %@forall
 second(1) | second(2).
-heap(2,S) :- heap(1,H), second(T), leaves(H,T,S).
+after_second(S) :- after_first(H), second(T), leaves(H,T,S).
 
 %@exists
 third(1) | third(2).
-heap(3,S) :- heap(2,H), third(T), leaves(H,T,S).
+after_third(S) :- after_second(H), third(T), leaves(H,T,S).
 
 %@constraint
 % The first player has won where the third move leaves nothing.
-:- not heap(3,0).
+:- not after_third(0).
 ",
     "% A fire engine is to stand at one of three crossings. minutes(C,H,M): from crossing C to house H it takes M minutes.
 % Is there a crossing from which no house is more than three minutes away? With 2 in place of 3 there is none, so

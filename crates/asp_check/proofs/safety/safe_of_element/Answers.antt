@@ -1,4 +1,4 @@
-use Rattle.std.proofs.Common.{◌≡◌, ◌∙◌, ◌++◌, List, sym, subst}
+use Rattle.std.proofs.Common.{◌++◌, List, sym, subst}
 use Rattle.std.specs.List.{flat_map, filter}
 use Rattle.std.proofs.lemmas.Result.{IfOk-weaker}
 use Rattle.asp_defs.specs.declared.syntax.Term.{Term}
@@ -10,27 +10,21 @@ use Rattle.asp_defs.proofs.Lists.{append_right}
 use Rattle.asp_check.specs.Variables.{terms_of}
 use Rattle.asp_check.specs.Bindings.{bound_alone, literal_links}
 use Rattle.asp_check.specs.Closure.{Within, IsLeast}
-use Rattle.asp_check.specs.Safe.{Agree, AgreeOn}
-use Rattle.asp_check.proofs.Safe.{safe_beside}
+use Rattle.asp_check.specs.Leaders.{leader_links}
+use Rattle.asp_check.specs.Safe.{AgreeOn}
+use Rattle.asp_check.proofs.Beside.{safe_beside}
 use Rattle.asp_check.proofs.safety.safe_of_element.Goals as goal
 
-pub returns-then-is_whole : goal.returns-then-is_whole
-returns-then-is_whole c =
+pub returns : goal.returns
+returns c =
     let own : Within (flat_map literal_variables c.as_slice-cond.result.now) (terms_of c.args.variables.now) =
     λ v i. subst (λ (vs : List Term). IsIn v vs) (sym c.requires.variables)
     (append_right (atom_variables c.args.element.now.atom) (flat_map literal_variables c.args.element.now.cond) v
     (subst (λ (ls : List Literal). IsIn v (flat_map literal_variables ls)) c.as_slice-cond.ensures i)) in
     IfOk-weaker c.safe_beside.result
-    (λ set. IsLeast (flat_map bound_alone c.as_slice-cond.result.now ++ filter (is_variable_of (terms_of c.args.safe.now.keys)) (terms_of c.args.variables.now)) (flat_map literal_links c.as_slice-cond.result.now) (terms_of set.keys))
+    (λ set. IsLeast (flat_map bound_alone c.as_slice-cond.result.now ++ filter (is_variable_of (terms_of c.args.safe.now.keys)) (terms_of c.args.variables.now))
+    (flat_map literal_links c.as_slice-cond.result.now ++ flat_map (leader_links c.args.leaders.now.entries) (terms_of c.args.variables.now)) (terms_of set.keys))
     (λ set. AgreeOn (terms_of c.args.variables.now) (terms_of set.keys) (safe_variables (c.args.body.now ++ c.args.element.now.cond)))
     (λ set least. subst (λ (ls : List Literal). AgreeOn (terms_of c.args.variables.now) (terms_of set.keys) (safe_variables (c.args.body.now ++ ls))) c.as_slice-cond.ensures
-    (safe_beside c.args.body.now c.as_slice-cond.result.now c.args.variables.now (terms_of c.args.safe.now.keys) (terms_of set.keys) c.requires.safe (sym c.requires.whole ∙ c.if-is_whole.true) own least))
+    (safe_beside c.args.body.now c.as_slice-cond.result.now c.args.variables.now (terms_of c.args.safe.now.keys) (terms_of set.keys) c.args.leaders.now.entries c.requires.safe c.requires.leaders own least))
     c.safe_beside.ensures
-
-pub returns-else-is_whole : goal.returns-else-is_whole
-returns-else-is_whole c =
-    IfOk-weaker c.safe_of_both.result
-    (λ set. Agree (terms_of set.keys) (safe_variables (c.args.body.now ++ c.as_slice-cond.result.now)))
-    (λ set. AgreeOn (terms_of c.args.variables.now) (terms_of set.keys) (safe_variables (c.args.body.now ++ c.args.element.now.cond)))
-    (λ set agree v i. subst (λ (ls : List Literal). is_variable_of (terms_of set.keys) v ≡ is_variable_of (safe_variables (c.args.body.now ++ ls)) v) c.as_slice-cond.ensures (agree v))
-    c.safe_of_both.ensures

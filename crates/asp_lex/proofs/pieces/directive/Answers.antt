@@ -1,7 +1,6 @@
 use Rattle.std.proofs.Common.{[], ◌∷◌, ◌+◌, take, refl, ap, arith}
 use Rattle.std.specs.List.{prefix_len}
-use Rattle.asp_defs.specs.Tokens.{is_lower}
-use Rattle.asp_defs.specs.Tokens.{DirectiveToken, TokenShape}
+use Rattle.asp_defs.specs.Tokens.{is_lower, DirectiveToken, TokenShape}
 use Rattle.asp_lex.specs.declared.tokens.Tok.TheVariants.{Directive}
 use Rattle.asp_lex.proofs.Fronts.{run_from}
 use Rattle.asp_lex.proofs.Classes.{gives_token}

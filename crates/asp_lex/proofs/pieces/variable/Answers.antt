@@ -1,7 +1,6 @@
 use Rattle.std.proofs.Common.{[], ◌∷◌, take, refl, ap, ◌+◌, arith}
 use Rattle.std.specs.List.{prefix_len}
-use Rattle.asp_defs.specs.Tokens.{is_name_byte}
-use Rattle.asp_defs.specs.Tokens.{VariableToken, TokenShape}
+use Rattle.asp_defs.specs.Tokens.{is_name_byte, VariableToken, TokenShape}
 use Rattle.asp_lex.specs.declared.tokens.Tok.TheVariants.{Variable}
 use Rattle.asp_lex.proofs.Fronts.{run_from}
 use Rattle.asp_lex.proofs.Classes.{upper_shape, gives_token}

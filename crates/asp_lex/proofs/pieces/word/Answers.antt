@@ -1,7 +1,6 @@
 use Rattle.std.proofs.Common.{[], ◌∷◌, ◌+◌, take, ap, arith}
 use Rattle.std.specs.List.{prefix_len}
-use Rattle.asp_defs.specs.Tokens.{is_name_byte}
-use Rattle.asp_defs.specs.Tokens.{word_token, TokenShape}
+use Rattle.asp_defs.specs.Tokens.{is_name_byte, word_token, TokenShape}
 use Rattle.asp_lex.proofs.Fronts.{run_from}
 use Rattle.asp_lex.proofs.Classes.{lower_shape, gives_token, word_is_good}
 use Rattle.asp_lex.proofs.pieces.word.Goals as goal
