@@ -1,60 +1,28 @@
 -- There is an answer to all words and bytes, where every list of bytes is a text of a program or refused.
-use Rattle.std.proofs.Common.{◌≡◌, ◌⊎◌, ◌<◌, ◌≤◌, ℕ, Bool, true, false, List, [], ◌∷◌, length, refl, sym, ap, ◌∙◌, subst, inl, inr, arith}
+use Rattle.std.proofs.Common.{◌≡◌, ◌⊎◌, ◌<◌, ◌≤◌, ℕ, List, length, refl, ap, inl, inr, arith}
 use Rattle.std.specs.Prelude.{Option, Some, None, is_none, Result, Ok, Err}
 use Rattle.std.proofs.lemmas.Bool.{cases_lt}
 use Rattle.asp_defs.specs.declared.faults.TextFault.{TextFault}
-use Rattle.asp_defs.specs.declared.syntax.Quant.{Quant}
-use Rattle.asp_defs.specs.declared.syntax.Quant.TheVariants.{Exists, Forall}
-use Rattle.asp_defs.specs.declared.syntax.Part.{Part}
 use Rattle.asp_defs.specs.declared.syntax.Program.{Program}
-use Rattle.asp_defs.specs.declared.syntax.Rule.{Rule}
 use Rattle.asp_defs.specs.Canonical.{program_text}
-use Rattle.asp_defs.specs.Checks.{CheckRefusal, check_refusal, IsCheckedText}
+use Rattle.asp_defs.specs.Checks.{CheckRefusal, check_refusal}
 use Rattle.asp_defs.specs.Grammar.{IsText}
 use Rattle.asp_defs.specs.Lines.{word_line, text_fault_line, too_large_line, check_refusal_line, coherent_line, incoherent_line}
+use Rattle.asp_defs.specs.declared.faults.Which.{Which}
 use Rattle.asp_defs.specs.declared.faults.Which.TheVariants.{Bytes}
-use Rattle.asp_defs.specs.Lists.{is_empty}
-use Rattle.asp_defs.specs.PlainPrograms.{one_level, are_plain, is_coherent}
+use Rattle.asp_defs.specs.Games.{game_of}
+use Rattle.asp_defs.specs.Values.{is_coherent}
+use Rattle.asp_defs.specs.Sizes.{IsAccepted, atom_total, game_too_large}
+use Rattle.asp_defs.specs.Runs.{TooLong, NoText, FailedCheck, LargeGame}
 use Rattle.asp_defs.specs.TextRefusals.{IsRefused}
 use Rattle.asp_defs.proofs.Lists.{true_or_false}
-use Rattle.asp_defs.proofs.TextRefutations.{clash}
 use Rattle.asp_top.specs.declared.status.Status.{Status}
 use Rattle.asp_top.specs.declared.status.Status.TheVariants.{Coherent, Incoherent, Done, Words, Text}
 use Rattle.asp_top.specs.declared.words.Command.{Command}
 use Rattle.asp_top.specs.declared.words.Command.TheVariants.{Solve, Check}
-use Rattle.asp_top.specs.Answers.{TooLong, NoText, FailedCheck, IsPlain, not_yet_line, IsAnswer}
+use Rattle.asp_top.specs.Answers.{most_atoms_tried, not_yet_line, IsAnswer}
 use Rattle.asp_top.specs.Commands.{command_of}
 use Rattle.asp_top.specs.Laws.{AnswersExist}
-use Rattle.asp_top.proofs.PlainRules.{one_level-same}
-
--- ---- plain programs are told from others
-
-abbrev program : List Part → List Rule → Program
-program levels cons = record { levels = levels; cons = cons }
-
-abbrev is_one : List Part → Bool
-is_one [] = false
-is_one (level ∷ []) = true
-is_one (level ∷ next ∷ more) = false
-
-abbrev is_existential : List Part → Bool
-is_existential [] = false
-is_existential (level ∷ more) = elim level.quant [ Exists ↦ true | Forall ↦ false ]
-
-plain_level : (quant : Quant) (rules : List Rule)
-    → IsPlain (program (record { quant = quant; rules = rules } ∷ []) [])
-    ⊎ (IsPlain (program (record { quant = quant; rules = rules } ∷ []) []) → ⊥)
-plain_level Forall rules = inr (λ h. clash (ap (λ (p : Program). is_existential p.levels) h.1))
-plain_level Exists rules = elim (true_or_false (are_plain rules)) [
-  | inl plain ↦ inl (rules, refl, plain)
-  | inr odd ↦ inr (λ h. clash (sym odd ∙ (ap are_plain (one_level-same rules h.0 h.1) ∙ h.2)))
-]
-
-plain_or_not : (levels : List Part) (cons : List Rule) → IsPlain (program levels cons) ⊎ (IsPlain (program levels cons) → ⊥)
-plain_or_not [] cons = inr (λ h. clash (ap (λ (p : Program). is_one p.levels) h.1))
-plain_or_not (level ∷ []) [] = plain_level level.quant level.rules
-plain_or_not (level ∷ []) (r ∷ cons) = inr (λ h. clash (ap (λ (p : Program). is_empty p.cons) h.1))
-plain_or_not (level ∷ next ∷ more) cons = inr (λ h. clash (ap (λ (p : Program). is_one p.levels) h.1))
 
 -- ---- an answer
 
@@ -62,28 +30,37 @@ abbrev Answered : List (List ℕ) → List ℕ → Type 0
 Answered words bytes = (status : Status) × (output : List ℕ) × IsAnswer words bytes status output
 
 module _ (words : List (List ℕ)) (bytes : List ℕ) where
-  solved : command_of words ≡ Ok Solve → (rules : List Rule) → IsCheckedText bytes (one_level rules) → are_plain rules ≡ true
+  solved : command_of words ≡ Ok Solve → (p : Program) → IsAccepted bytes p → atom_total p ≤ most_atoms_tried
       → Answered words bytes
-  solved asked rules text plain = elim (true_or_false (is_coherent rules)) [
+  solved asked p text few = elim (true_or_false (is_coherent (game_of p))) [
     | inl yes_it_is ↦
-        (Coherent, coherent_line, (asked, record { rules = rules; text = text; plain = plain; coherent = yes_it_is }, refl))
+        (Coherent, coherent_line, (asked, record { program = p; text = text; few = few; coherent = yes_it_is }, refl))
     | inr not_so ↦
-        (Incoherent, incoherent_line, (asked, record { rules = rules; text = text; plain = plain; coherent = not_so }, refl))
+        (Incoherent, incoherent_line, (asked, record { program = p; text = text; few = few; coherent = not_so }, refl))
   ]
 
-  accepted : (command : Command) → command_of words ≡ Ok command → (p : Program) → IsCheckedText bytes p → Answered words bytes
+  accepted : (command : Command) → command_of words ≡ Ok command → (p : Program) → IsAccepted bytes p → Answered words bytes
   accepted Check asked p text = (Done, program_text p, (asked, (p, text, refl)))
-  accepted Solve asked p text = elim (plain_or_not p.levels p.cons) [
-    | inl h ↦ solved asked h.0 (subst (IsCheckedText bytes) h.1 text) h.2
-    | inr odd ↦ (Text, not_yet_line, inr (asked, (p, text, odd), refl))
+  accepted Solve asked p text = elim (cases_lt 20 (atom_total p)) [
+    | inl many ↦ (Text, not_yet_line, inr (asked, (p, text, many), refl))
+    | inr few ↦ solved asked p text few
   ]
+
+  sized : (command : Command) → command_of words ≡ Ok command → (1048576 < length bytes → ⊥) → length bytes ≤ 1048576
+      → (p : Program) → IsText bytes p → check_refusal p ≡ None → (found : Option (Which × ℕ)) → game_too_large p ≡ found
+      → Answered words bytes
+  sized command asked past short p text passes (Some found) large =
+      (Text, too_large_line found.0 found.1, inl ((command, asked), LargeGame p found.0 found.1 past text passes large refl))
+  sized command asked past short p text passes None keeps =
+      accepted command asked p
+      (record { short = short; text = text; checked = ap is_none passes; small = ap is_none keeps })
 
   checked : (command : Command) → command_of words ≡ Ok command → (1048576 < length bytes → ⊥) → length bytes ≤ 1048576
-      → (p : Program) → IsText bytes p → (refusal : Option CheckRefusal) → check_refusal p ≡ refusal → Answered words bytes
+      → (p : Program) → IsText bytes p → (found : Option CheckRefusal) → check_refusal p ≡ found → Answered words bytes
   checked command asked past short p text (Some why) fails =
       (Text, check_refusal_line why, inl ((command, asked), FailedCheck p why past text fails refl))
   checked command asked past short p text None passes =
-      accepted command asked p (record { short = short; text = text; checked = ap is_none passes })
+      sized command asked past short p text passes (game_too_large p) refl
 
   module _ (read : ((p : Program) × IsText bytes p) ⊎ ((fault : TextFault) × IsRefused bytes fault)) where
     asked_for : (command : Command) → command_of words ≡ Ok command → Answered words bytes

@@ -1,12 +1,6 @@
-pub mod Atoms
 pub mod Taken
 pub mod Refusals
-pub mod PlainRules
-pub mod Gathered
+pub mod Solved
 pub mod Written
-pub mod Models
-pub mod Subsets
-pub mod Minimal
-pub mod Repeated
 pub mod Unique
 pub mod Existence

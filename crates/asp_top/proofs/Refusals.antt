@@ -1,17 +1,22 @@
 -- Which line a refused text has.
-use Rattle.std.proofs.Common.{◌<◌, ℕ, List, length, refl}
-use Rattle.std.specs.Prelude.{◌≢◌}
+use Rattle.std.proofs.Common.{◌<◌, ◌≤◌, ℕ, true, List, length, refl, sym, ap, subst, arith}
+use Rattle.std.specs.Prelude.{◌≡◌, ◌≢◌, Option, Some, None, is_none, IsTrue}
 use Rattle.asp_check.specs.declared.checks.CheckFault.{CheckFault}
 use Rattle.asp_check.specs.declared.checks.CheckFault.TheVariants as check
 use Rattle.asp_check.specs.Refusals.{IsRefusal}
+use Rattle.asp_defs.specs.declared.faults.SizeFault.{SizeFault}
+use Rattle.asp_defs.specs.declared.faults.SizeFault.TheVariants as size
 use Rattle.asp_defs.specs.declared.faults.TextFault.{TextFault}
 use Rattle.asp_defs.specs.declared.faults.TextFault.TheVariants as text
 use Rattle.asp_defs.specs.declared.syntax.Program.{Program}
-use Rattle.asp_defs.specs.Checks.{UnsafeRule, HeadedRule, PastLimit}
+use Rattle.asp_defs.specs.Checks.{CheckRefusal, UnsafeRule, HeadedRule, PastLimit, check_refusal, is_checked, IsCheckedText}
+use Rattle.asp_defs.specs.Sizes.{game_too_large, IsAccepted}
 use Rattle.asp_defs.specs.Grammar.{IsText}
 use Rattle.asp_defs.specs.TextRefusals.{IsRefused}
-use Rattle.asp_top.specs.Answers.{NoText, FailedCheck}
-use Rattle.asp_top.specs.Replies.{refusal_of_text, refusal_of_check, IsRefusedSo}
+use Rattle.asp_defs.specs.Runs.{NoText, FailedCheck, LargeGame}
+use Rattle.asp_defs.proofs.TextRefutations.{clash}
+use Rattle.asp_top.specs.Replies.{refusal_of_text, refusal_of_check, refusal_of_size, IsRefusedSo}
+use Rattle.asp_top.specs.Solved.{IsTooLarge}
 
 module _ (bytes : List ℕ) (short : 1048576 < length bytes → ⊥) where
   -- a fault of the reader
@@ -36,3 +41,28 @@ module _ (bytes : List ℕ) (short : 1048576 < length bytes → ⊥) where
   check_refused p (check.NotConstraint rule) is h = FailedCheck p (HeadedRule rule) short is h refl
   check_refused p (check.TooLarge which count) is h = FailedCheck p (PastLimit which count) short is h refl
   check_refused p check.NoMemory is h = tt
+
+-- ---- texts that pass the checks
+
+no_refusal : (p : Program) → IsTrue (is_checked p) → check_refusal p ≡ None
+no_refusal p h = go (check_refusal p) h
+  where
+    go : (o : Option CheckRefusal) → is_none o ≡ true → o ≡ None
+    go None e = refl
+    go (Some why) e = clash e
+
+module _ (bytes : List ℕ) (p : Program) (text : IsCheckedText bytes p) where
+  -- a fault for the size of the game
+  pub size_refused : (fault : SizeFault) → IsTooLarge p fault → IsRefusedSo bytes (refusal_of_size fault)
+  size_refused (size.TooLarge which count) h =
+      let short : length bytes ≤ 1048576 = text.short in
+      LargeGame p which count (λ past. let long : 1048576 < length bytes = past in omega arith) text.text
+      (no_refusal p text.checked) h refl
+  size_refused size.NoMemory h = tt
+
+  -- a game that keeps the limits
+  pub accepted : (q : Program) → q ≡ p → game_too_large q ≡ None → IsAccepted bytes q
+  accepted q same keeps =
+      subst (λ (r : Program). game_too_large r ≡ None → IsAccepted bytes r) (sym same)
+      (λ small. record { short = text.short; text = text.text; checked = text.checked; small = ap is_none small })
+      keeps

@@ -3,13 +3,14 @@ use Rattle.std.proofs.Common.{◌≡◌, ◌<◌, ◌≤◌, ◌+◌, ℕ, List,
 use Rattle.std.specs.Prelude.{Option, Some, None, min}
 use Rattle.std.proofs.lemmas.Bool.{cases_lt}
 use Rattle.asp_defs.specs.declared.syntax.Program.{Program}
-use Rattle.asp_defs.specs.Checks.{IsCheckedText}
+use Rattle.asp_defs.specs.Sizes.{IsAccepted}
+use Rattle.asp_defs.specs.Runs.{TooLong, NoText, FailedCheck, LargeGame}
 use Rattle.asp_io.specs.Moved.{TakesFirst}
 use Rattle.asp_top.specs.declared.words.Command.{Command}
 use Rattle.asp_top.specs.declared.answer.Answer.{Answer}
 use Rattle.asp_top.specs.declared.answer.Answer.TheVariants.{Refused, Accepted, NotYet, Verdict}
 use Rattle.asp_print.specs.LineTexts.{line_text}
-use Rattle.asp_top.specs.Answers.{TextRefusal, TooLong, NoText, FailedCheck}
+use Rattle.asp_top.specs.Answers.{IsRefusedWith}
 use Rattle.asp_top.specs.Replies.{IsRight}
 
 -- the bytes that were taken, where the source tells what it had
@@ -55,33 +56,35 @@ module _ (bytes taken : List ℕ) (first : taken ≡ take 1048577 bytes) where
     | inr within ↦ all_taken within
   ]
 
-  checked_whole : (p : Program) → IsCheckedText taken p → IsCheckedText bytes p
-  checked_whole p text =
+  accepted_whole : (p : Program) → IsAccepted taken p → IsAccepted bytes p
+  accepted_whole p text =
       let short : length taken ≤ 1048576 = text.short in
-      subst (λ bs. IsCheckedText bs p) (all_taken short) text
+      subst (λ bs. IsAccepted bs p) (all_taken short) text
 
-  refused_whole : (output : List ℕ) → TextRefusal taken output → TextRefusal bytes output
+  refused_whole : (output : List ℕ) → IsRefusedWith taken output → IsRefusedWith bytes output
   refused_whole output (TooLong long is) =
       let past : 1048576 < length taken = long in
       let same = taken_length in
       let more : 1048576 < length bytes = omega arith in
       TooLong more is
   refused_whole output (NoText fault short refused is) =
-      subst (λ bs. TextRefusal bs output) (all_unless short) (NoText fault short refused is)
+      subst (λ bs. IsRefusedWith bs output) (all_unless short) (NoText fault short refused is)
   refused_whole output (FailedCheck p why short text fails is) =
-      subst (λ bs. TextRefusal bs output) (all_unless short) (FailedCheck p why short text fails is)
+      subst (λ bs. IsRefusedWith bs output) (all_unless short) (FailedCheck p why short text fails is)
+  refused_whole output (LargeGame p which count short text passes large is) =
+      subst (λ bs. IsRefusedWith bs output) (all_unless short) (LargeGame p which count short text passes large is)
 
   -- what is right of the bytes that were taken is right of all
   pub right_of_all : (command : Command) (answer : Answer) → IsRight command taken answer → IsRight command bytes answer
   right_of_all command (Refused line) h = refused_whole (line_text line) h
-  right_of_all command (Accepted p) (is, text) = (is, checked_whole p text)
-  right_of_all command NotYet (is, (p, text, other)) = (is, (p, checked_whole p text, other))
+  right_of_all command (Accepted p) (is, text) = (is, accepted_whole p text)
+  right_of_all command NotYet (is, (p, text, more)) = (is, (p, accepted_whole p text, more))
   right_of_all command (Verdict verdict) (is, h) = (
     is,
     record {
-      rules = h.rules;
-      text = checked_whole _ h.text;
-      plain = h.plain;
+      program = h.program;
+      text = accepted_whole h.program h.text;
+      few = h.few;
       coherent = h.coherent;
     },
   )

@@ -1,45 +1,36 @@
 -- What a run may answer. All definitions are transparent.
-use Rattle.std.specs.Prelude.{◌≡◌, ◌<◌, ◌⊎◌, ℕ, Bool, true, false, IsTrue, Some, Ok, Err, List, length, codes}
-use Rattle.asp_defs.specs.declared.faults.TextFault.{TextFault}
-use Rattle.asp_defs.specs.declared.faults.Which.TheVariants.{Bytes}
-use Rattle.asp_defs.specs.declared.syntax.Rule.{Rule}
+use Rattle.std.specs.Prelude.{◌≡◌, ◌<◌, ◌≤◌, ◌⊎◌, ℕ, Bool, true, false, Ok, Err, List, codes}
 use Rattle.asp_defs.specs.declared.syntax.Program.{Program}
-use Rattle.asp_defs.specs.Grammar.{IsText}
-use Rattle.asp_defs.specs.TextRefusals.{IsRefused}
-use Rattle.asp_defs.specs.Limits.{limit}
-use Rattle.asp_defs.specs.Checks.{CheckRefusal, check_refusal, IsCheckedText}
-use Rattle.asp_defs.specs.Lines.{fault_line, word_line, text_fault_line, too_large_line, check_refusal_line, coherent_line, incoherent_line}
+use Rattle.asp_defs.specs.Sizes.{IsAccepted, atom_total}
+use Rattle.asp_defs.specs.Games.{game_of}
+use Rattle.asp_defs.specs.Values.{is_coherent}
+use Rattle.asp_defs.specs.Runs.{TextRefusal, refusal}
+use Rattle.asp_defs.specs.Lines.{fault_line, word_line, coherent_line, incoherent_line}
 use Rattle.asp_defs.specs.Canonical.{program_text}
-use Rattle.asp_defs.specs.PlainPrograms.{one_level, are_plain, is_coherent}
 use Rattle.asp_top.specs.declared.status.Status.{Status}
 use Rattle.asp_top.specs.declared.status.Status.TheVariants.{Coherent, Incoherent, Unknown, Done, Words, Text, Read, Write, Memory}
 use Rattle.asp_top.specs.declared.words.Command.{Command}
 use Rattle.asp_top.specs.declared.words.Command.TheVariants.{Solve, Check}
 use Rattle.asp_top.specs.Commands.{command_of}
 
--- a text is refused with this line, for the first of these reasons: it is too long, it is no text of a program, or a check
--- of its program fails
-pub data TextRefusal (bytes : List ℕ) (output : List ℕ) : Type 0 where
-  TooLong : limit Bytes < length bytes → output ≡ too_large_line Bytes 1048577 → TextRefusal bytes output
-  NoText : (fault : TextFault) → (limit Bytes < length bytes → ⊥) → IsRefused bytes fault
-      → output ≡ text_fault_line fault → TextRefusal bytes output
-  FailedCheck : (p : Program) (why : CheckRefusal) → (limit Bytes < length bytes → ⊥) → IsText bytes p
-      → check_refusal p ≡ Some why → output ≡ check_refusal_line why → TextRefusal bytes output
+-- a text is refused with this line, for the first reason that there is
+abbrev pub IsRefusedWith : List ℕ → List ℕ → Type 0
+IsRefusedWith bytes output = TextRefusal bytes (refusal output)
 
--- a program is plain: one existential level of plain rules
-abbrev pub IsPlain : Program → Type 0
-IsPlain p = (rules : List Rule) × (p ≡ one_level rules) × IsTrue (are_plain rules)
+-- the most atoms of a last base over which every set of atoms is tried
+abbrev pub most_atoms_tried : ℕ
+most_atoms_tried = 20
 
--- bytes are an accepted text of a plain program that is coherent or not; no bytes are the text of two programs
+-- bytes are an accepted text of a program of few atoms whose game is coherent or not; no bytes are the text of two programs
 pub record HasVerdict (bytes : List ℕ) (verdict : Bool) : Type 0 where
-  pub rules : List Rule
-  pub text : IsCheckedText bytes (one_level rules)
-  pub plain : IsTrue (are_plain rules)
-  pub coherent : is_coherent rules ≡ verdict
+  pub program : Program
+  pub text : IsAccepted bytes program
+  pub few : atom_total program ≤ most_atoms_tried
+  pub coherent : is_coherent (game_of program) ≡ verdict
 
--- bytes are an accepted text of a program that isn't plain
+-- bytes are an accepted text of a program of more atoms
 abbrev pub IsNotYet : List ℕ → Type 0
-IsNotYet bytes = (p : Program) × IsCheckedText bytes p × (IsPlain p → ⊥)
+IsNotYet bytes = (p : Program) × IsAccepted bytes p × (most_atoms_tried < atom_total p)
 
 -- the line for an accepted text whose program isn't solved yet
 abbrev pub not_yet_line : List ℕ
@@ -57,10 +48,10 @@ IsAnswer words bytes Incoherent output =
     (command_of words ≡ Ok Solve) × HasVerdict bytes false × (output ≡ incoherent_line)
 IsAnswer words bytes Unknown output = ⊥
 IsAnswer words bytes Done output =
-    (command_of words ≡ Ok Check) × ((p : Program) × IsCheckedText bytes p × (output ≡ program_text p))
+    (command_of words ≡ Ok Check) × ((p : Program) × IsAccepted bytes p × (output ≡ program_text p))
 IsAnswer words bytes Words output = (place : ℕ) × (command_of words ≡ Err place) × (output ≡ word_line place)
 IsAnswer words bytes Text output =
-    (AreRead words × TextRefusal bytes output)
+    (AreRead words × IsRefusedWith bytes output)
     ⊎ ((command_of words ≡ Ok Solve) × IsNotYet bytes × (output ≡ not_yet_line))
 IsAnswer words bytes Read output = ⊥
 IsAnswer words bytes Write output = ⊥

@@ -1,8 +1,6 @@
 pub mod Answers
 pub mod Commands
 pub mod Laws
-pub mod Masks
-pub mod Names
 pub mod Outputs
 pub mod Replies
 pub mod Solved

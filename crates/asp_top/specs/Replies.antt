@@ -2,7 +2,9 @@
 use Rattle.std.specs.Prelude.{◌≡◌, ℕ, true, false, List}
 use Rattle.asp_defs.specs.declared.faults.TextFault.{TextFault}
 use Rattle.asp_defs.specs.declared.faults.TextFault.TheVariants as text
-use Rattle.asp_defs.specs.Checks.{IsCheckedText}
+use Rattle.asp_defs.specs.declared.faults.SizeFault.{SizeFault}
+use Rattle.asp_defs.specs.declared.faults.SizeFault.TheVariants as size
+use Rattle.asp_defs.specs.Sizes.{IsAccepted}
 use Rattle.asp_defs.specs.Lines.{coherent_line, incoherent_line}
 use Rattle.asp_defs.specs.Canonical.{program_text}
 use Rattle.asp_check.specs.declared.checks.CheckFault.{CheckFault}
@@ -17,9 +19,9 @@ use Rattle.asp_top.specs.declared.words.Command.{Command}
 use Rattle.asp_top.specs.declared.words.Command.TheVariants.{Solve, Check}
 use Rattle.asp_top.specs.declared.answer.Answer.{Answer}
 use Rattle.asp_top.specs.declared.answer.Answer.TheVariants.{Refused, Accepted, NotYet, Verdict}
-use Rattle.asp_top.specs.Answers.{TextRefusal, HasVerdict, IsNotYet, not_yet_line}
+use Rattle.asp_top.specs.Answers.{IsRefusedWith, HasVerdict, IsNotYet, not_yet_line}
 
--- the refusal that a fault of the reader is, and that a fault of the checks is
+-- the refusal that a fault of the reader is, that a fault of the checks is, and that a fault for a game's size is
 abbrev pub refusal_of_text : TextFault → Refusal
 refusal_of_text (text.BadByte place) = refusal.Text (line.BadByte place)
 refusal_of_text (text.BadNumber place) = refusal.Text (line.BadNumber place)
@@ -39,9 +41,13 @@ refusal_of_check (check.NotConstraint rule) = refusal.Text (line.NotConstraint r
 refusal_of_check (check.TooLarge which count) = refusal.Text (line.TooLarge which count)
 refusal_of_check check.NoMemory = refusal.NoMemory
 
+abbrev pub refusal_of_size : SizeFault → Refusal
+refusal_of_size (size.TooLarge which count) = refusal.Text (line.TooLarge which count)
+refusal_of_size size.NoMemory = refusal.NoMemory
+
 -- bytes are refused so; want of memory says nothing
 abbrev pub IsRefusedSo : List ℕ → Refusal → Type 0
-IsRefusedSo bytes (refusal.Text line) = TextRefusal bytes (line_text line)
+IsRefusedSo bytes (refusal.Text line) = IsRefusedWith bytes (line_text line)
 IsRefusedSo bytes refusal.NoMemory = Unit {0}
 
 abbrev pub status_of : Answer → Status
@@ -60,7 +66,7 @@ text_of (Verdict false) = incoherent_line
 
 -- what a command says of the bytes is right
 abbrev pub IsRight : Command → List ℕ → Answer → Type 0
-IsRight command bytes (Refused line) = TextRefusal bytes (line_text line)
-IsRight command bytes (Accepted p) = (command ≡ Check) × IsCheckedText bytes p
+IsRight command bytes (Refused line) = IsRefusedWith bytes (line_text line)
+IsRight command bytes (Accepted p) = (command ≡ Check) × IsAccepted bytes p
 IsRight command bytes NotYet = (command ≡ Solve) × IsNotYet bytes
 IsRight command bytes (Verdict verdict) = (command ≡ Solve) × HasVerdict bytes verdict

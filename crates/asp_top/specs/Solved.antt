@@ -1,25 +1,30 @@
--- What is said of a program that passed the checks. All definitions are transparent.
-use Rattle.std.specs.Prelude.{◌≡◌, IsTrue, List}
-use Rattle.std.specs.List.{list_all}
-use Rattle.asp_defs.specs.declared.syntax.Rule.{Rule}
+-- The size of a program's game, and what is said of its coherence. All definitions are transparent.
+use Rattle.std.specs.Prelude.{◌≡◌, ◌<◌, ◌≤◌, Some, None}
+use Rattle.asp_defs.specs.declared.faults.SizeFault.{SizeFault}
+use Rattle.asp_defs.specs.declared.faults.SizeFault.TheVariants.{TooLarge, NoMemory}
 use Rattle.asp_defs.specs.declared.syntax.Program.{Program}
-use Rattle.asp_defs.specs.PlainPrograms.{one_level, is_plain_rule, are_plain, is_coherent}
+use Rattle.asp_defs.specs.Bases.{bases_of}
+use Rattle.asp_defs.specs.Games.{game_of}
+use Rattle.asp_defs.specs.Sizes.{atom_total, game_too_large}
+use Rattle.asp_defs.specs.Values.{is_coherent}
+use Rattle.asp_top.specs.declared.accept.Accepted.{Accepted}
 use Rattle.asp_top.specs.declared.answer.Answer.{Answer}
-use Rattle.asp_top.specs.declared.answer.Answer.TheVariants.{Refused, Accepted, NotYet, Verdict}
-use Rattle.asp_top.specs.Answers.{IsPlain}
+use Rattle.asp_top.specs.declared.answer.Answer.TheVariants as answer
+use Rattle.asp_top.specs.Answers.{most_atoms_tried}
 
--- the program has one level, an existential one, with these plain rules, and nothing else
-abbrev pub HasPlainRules : Program → List Rule → Type 0
-HasPlainRules p rules = (p ≡ one_level rules) × IsTrue (list_all is_plain_rule rules)
+-- a program is refused for the size of its game; want of memory says nothing
+abbrev pub IsTooLarge : Program → SizeFault → Type 0
+IsTooLarge p (TooLarge which count) = game_too_large p ≡ Some (which, count)
+IsTooLarge p NoMemory = Unit {0}
 
--- a program has no such rules
-abbrev pub HasNoPlainRules : Program → Type 0
-HasNoPlainRules p = (rules : List Rule) → HasPlainRules p rules → ⊥
+-- a program stands beside its bases, and its game keeps the limits
+pub record IsMeasured (accepted : Accepted) : Type 0 where
+  pub bases : accepted.bases ≡ bases_of accepted.checked
+  pub small : game_too_large accepted.checked ≡ None
 
--- what is said of the program's coherence is right
+-- what is said of a program's coherence is right
 abbrev pub IsSolved : Program → Answer → Type 0
-IsSolved p (Refused line) = ⊥
-IsSolved p (Accepted q) = ⊥
-IsSolved p NotYet = IsPlain p → ⊥
-IsSolved p (Verdict verdict) =
-    (rules : List Rule) × (p ≡ one_level rules) × IsTrue (are_plain rules) × (is_coherent rules ≡ verdict)
+IsSolved p (answer.Refused line) = ⊥
+IsSolved p (answer.Accepted q) = ⊥
+IsSolved p answer.NotYet = most_atoms_tried < atom_total p
+IsSolved p (answer.Verdict verdict) = (atom_total p ≤ most_atoms_tried) × (is_coherent (game_of p) ≡ verdict)

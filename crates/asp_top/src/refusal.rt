@@ -1,6 +1,6 @@
 //! Why a text is not accepted.
 use asp_check::CheckFault;
-use asp_defs::TextFault;
+use asp_defs::{SizeFault, TextFault};
 use asp_print::Line;
 
 /// Why a text is not accepted.
@@ -47,6 +47,20 @@ impl From<CheckFault> for Refusal {
             CheckFault::NotConstraint(rule) => Refusal::Text(Line::NotConstraint(rule)),
             CheckFault::TooLarge(which, count) => Refusal::Text(Line::TooLarge(which, count)),
             CheckFault::NoMemory => Refusal::NoMemory,
+        }
+    }
+}
+
+impl From<SizeFault> for Refusal {
+    ghost use Rattle.std.specs.Prelude.{◌≡◌};
+    ghost use Rattle.asp_top.specs.Replies.{refusal_of_size};
+
+    ghost from_gives = { λ fault refusal. refusal ≡ refusal_of_size fault };
+
+    fn from(fault: SizeFault) -> Refusal {
+        match fault {
+            SizeFault::TooLarge(which, count) => Refusal::Text(Line::TooLarge(which, count)),
+            SizeFault::NoMemory => Refusal::NoMemory,
         }
     }
 }

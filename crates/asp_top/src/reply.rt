@@ -1,18 +1,17 @@
 //! What a run has to say of the bytes of its source.
-ghost use Rattle.std.specs.Prelude.{◌≡◌, ◌≤◌, ◌+◌, ℕ, List, Some, IfOk, IfErr, OnOk, IsErrOf, drop, length};
-ghost use Rattle.asp_defs.specs.Checks.{IsCheckedText};
+ghost use Rattle.std.specs.Prelude.{◌≡◌, ◌≤◌, ◌+◌, ℕ, List, Some, IfOk, OnOk, IsErrOf, drop};
+ghost use Rattle.asp_defs.specs.Sizes.{IsAccepted};
 ghost use Rattle.asp_io.specs.Causes.{Rose};
-ghost use Rattle.asp_top.specs.Replies.{IsRefusedSo, IsRight};
+ghost use Rattle.asp_top.specs.Replies.{IsRight};
+ghost use Rattle.asp_top.specs.Solved.{IsMeasured};
 
+use crate::accept::{Accepted, accept};
 use crate::answer::Answer;
 use crate::refusal::Refusal;
 use crate::solve::solve;
 use crate::words::Command;
-use asp_check::{Checked, check};
 use asp_defs::Which;
 use asp_io::{ReadFault, Source, read_all};
-use asp_print::Line;
-use asp_read::read;
 use std::alloc::{AllocError, Global};
 
 /// What the command has to say of the bytes that the source has left.
@@ -43,35 +42,20 @@ fn reply(alloc: Global, command: Command, bytes: Vec<u8>) -> Result<Answer, Allo
     ensures { IfOk result (IsRight command bytes.items) }
 {
     match accept(alloc, bytes) {
-        Ok(checked) => serve(alloc, command, checked),
+        Ok(accepted) => serve(alloc, command, accepted),
         Err(Refusal::Text(line)) => Ok(Answer::Refused(line)),
         Err(Refusal::NoMemory) => Err(AllocError),
     }
 }
 
-/// The program of the text, where it passes the checks. The bytes are given up.
-///
-/// # Errors
-///
-/// The text's first refusal: for its length, its tokens, its grammar, and the checks of its program.
-fn accept(alloc: Global, bytes: Vec<u8>) -> Result<Checked, Refusal>
-    ensures accepted { IfOk result (IsCheckedText bytes.items) }
-    ensures refused { IfErr result (IsRefusedSo bytes.items) }
-{
-    let most = Which::Bytes.limit();
-    if bytes.len() as u64 > most {
-        return Err(Refusal::Text(Line::TooLarge(Which::Bytes, most + 1)));
-    }
-    let program = read(alloc, bytes.as_slice())?;
-    Ok(check(alloc, program)?)
-}
-
 /// What the command has to say of an accepted text's program.
-fn serve(alloc: Global, command: Command, checked: Checked) -> Result<Answer, AllocError>
-    ensures { IfOk result (λ answer. (bytes : List ℕ) → IsCheckedText bytes checked → IsRight command bytes answer) }
+fn serve(alloc: Global, command: Command, accepted: Accepted) -> Result<Answer, AllocError>
+    requires { IsMeasured accepted }
+    ensures { IfOk result (λ answer. (bytes : List ℕ) → IsAccepted bytes accepted.checked
+        → IsRight command bytes answer) }
 {
     match command {
-        Command::Check => Ok(Answer::Accepted(checked)),
-        Command::Solve => solve(alloc, checked.program()),
+        Command::Check => Ok(Answer::Accepted(accepted.checked)),
+        Command::Solve => solve(alloc, accepted),
     }
 }

@@ -3,12 +3,16 @@ ghost use Rattle.std.specs.Prelude.{◌<◌};
 
 mod examples;
 mod faults;
+mod games;
 mod language;
+mod sizes;
 
 use crate::{Status, run_single};
 use asp_io::{MemSink, MemSource};
 use examples::EXAMPLES;
+use games::{ARGUMENTS, LEVELS, RULES};
 use language::{FORMS, REFUSED, VARIABLES};
+use sizes::{KEPT, LARGE};
 use std::alloc::{AllocError, Global};
 use std::process::Abort;
 use std::test::Fail;
@@ -48,6 +52,21 @@ fn run_rows(rt: &impl Abort, alloc: Global, rows: &[Row]) -> Result<(), AllocErr
         let (status, sink) = run_bytes(alloc, words, bytes, 5)?;
         assert_eq!(rt; sink.taken(), output.as_bytes(), "{words}: {text}");
         assert_eq!(rt; status.code(), *code, "{words}: {text}");
+    }
+    Ok(())
+}
+
+/// Runs `solve` over each text, and looks whether its program is coherent.
+fn solve_rows(rt: &impl Abort, alloc: Global, rows: &[(&str, bool)]) -> Result<(), AllocError> {
+    for (text, coherent) in rows {
+        let bytes = text.as_bytes().to_vec(alloc)?;
+        let (status, _) = run_bytes(alloc, "solve", bytes, 60_000)?;
+        let verdict = if *coherent {
+            Status::Coherent
+        } else {
+            Status::Incoherent
+        };
+        assert_eq!(rt; status, verdict, "{text}");
     }
     Ok(())
 }
@@ -119,8 +138,8 @@ const WORKED: [Row; 23] = [
     ),
 ];
 
-/// Verdicts on plain programs, and what isn't solved yet.
-const SOLVED: [Row; 31] = [
+/// Verdicts on programs of one existential level, and what isn't solved yet.
+const SOLVED: [Row; 34] = [
     (
         "solve",
         "%@exists\na :- not b.\nb :- not a.\n",
@@ -134,7 +153,7 @@ const SOLVED: [Row; 31] = [
         "INCOHERENT\n",
         20,
     ),
-    ("solve", "%@exists\n{a}.\n", "aspq: not yet\n", 3),
+    ("solve", "%@exists\n{a}.\n", "COHERENT\n", 10),
     ("solve", "%@exists", "COHERENT\n", 10),
     ("solve", "%@exists:-.", "INCOHERENT\n", 20),
     ("solve", "%@exists a:-b. b:-a. :-not a.", "INCOHERENT\n", 20),
@@ -159,10 +178,18 @@ const SOLVED: [Row; 31] = [
     ),
     (
         "solve",
-        "%@exists a.b.c.d.e.f.g.h.i.j.k.l.m.n.o.p.q.",
+        "%@exists a.b.c.d.e.f.g.h.i.j.k.l.m.n.o.p.q.r.s.t.",
+        "COHERENT\n",
+        10,
+    ),
+    (
+        "solve",
+        "%@exists a.b.c.d.e.f.g.h.i.j.k.l.m.n.o.p.q.r.s.t.u.",
         "aspq: not yet\n",
         3,
     ),
+    ("solve", "%@exists p(1..20).", "COHERENT\n", 10),
+    ("solve", "%@exists p(1..21).", "aspq: not yet\n", 3),
     (
         "solve",
         "%@exists a:-not b. b:-not a. c:-not d. d:-not c. e:-not f. f:-not e. g:-not h. h:-not g. i:-not j. j:-not i. k:-not l. l:-not k. m:-not n. n:-not m. o:-not p. p:-not o.",
@@ -177,16 +204,16 @@ const SOLVED: [Row; 31] = [
     ),
     (
         "solve",
-        "%@exists a:-not b. b:-not a. c:-not d. d:-not c. e:-not f. f:-not e. g:-not h. h:-not g. i:-not j. j:-not i. k:-not l. l:-not k. m:-not n. n:-not m. o:-not p. p:-not o. q.",
-        "aspq: not yet\n",
-        3,
+        "%@exists a:-not b. b:-not a. c:-not d. d:-not c. e:-not f. f:-not e. g:-not h. h:-not g. i:-not j. j:-not i. k:-not l. l:-not k. m:-not n. n:-not m. o:-not p. p:-not o. q:-not r. r:-not q. s:-not t. t:-not s.",
+        "COHERENT\n",
+        10,
     ),
     (
         "solve",
         "%@exists%@exists%@exists%@exists%@exists%@exists%@exists%@exists\
         %@forall%@forall%@forall%@forall%@forall%@forall%@forall%@forall",
-        "aspq: not yet\n",
-        3,
+        "COHERENT\n",
+        10,
     ),
     ("solve", "%@exists é.", "aspq: bad byte at 9\n", 3),
     ("solve", "%@exists a. % é\n", "COHERENT\n", 10),
@@ -203,23 +230,18 @@ const SOLVED: [Row; 31] = [
         20,
     ),
     ("solve", "%@exists p(). :- not p.", "COHERENT\n", 10),
-    ("solve", "%@forall\na.\n", "aspq: not yet\n", 3),
-    (
-        "solve",
-        "%@exists\na.\n%@exists\nb.\n",
-        "aspq: not yet\n",
-        3,
-    ),
-    ("solve", "%@exists\na | b.\n", "aspq: not yet\n", 3),
+    ("solve", "%@forall\na.\n", "COHERENT\n", 10),
+    ("solve", "%@exists\na.\n%@exists\nb.\n", "COHERENT\n", 10),
+    ("solve", "%@exists\na | b.\n", "COHERENT\n", 10),
     (
         "solve",
         "%@exists\na.\n%@constraint\n:- b.\n",
-        "aspq: not yet\n",
-        3,
+        "COHERENT\n",
+        10,
     ),
-    ("solve", "%@exists\n:- 2 < 1.\n", "aspq: not yet\n", 3),
-    ("solve", "%@exists\np(1).\n", "aspq: not yet\n", 3),
-    ("solve", "%@exists\n:- not p(1).\n", "aspq: not yet\n", 3),
+    ("solve", "%@exists\n:- 2 < 1.\n", "COHERENT\n", 10),
+    ("solve", "%@exists\np(1).\n", "COHERENT\n", 10),
+    ("solve", "%@exists\n:- not p(1).\n", "INCOHERENT\n", 20),
     (
         "solve",
         "%@exists\np(X).\n",
@@ -445,8 +467,33 @@ fn answers_worked_texts(rt: HostRuntime) -> Result<(), Fail> {
 }
 
 #[test]
-fn solves_plain_programs(rt: HostRuntime) -> Result<(), Fail> {
+fn solves_one_level(rt: HostRuntime) -> Result<(), Fail> {
     Ok(run_rows(&rt, rt.alloc(), &SOLVED)?)
+}
+
+#[test]
+fn solves_levels(rt: HostRuntime) -> Result<(), Fail> {
+    Ok(solve_rows(&rt, rt.alloc(), &LEVELS)?)
+}
+
+#[test]
+fn solves_rules(rt: HostRuntime) -> Result<(), Fail> {
+    Ok(solve_rows(&rt, rt.alloc(), &RULES)?)
+}
+
+#[test]
+fn solves_rules_with_arguments(rt: HostRuntime) -> Result<(), Fail> {
+    Ok(solve_rows(&rt, rt.alloc(), &ARGUMENTS)?)
+}
+
+#[test]
+fn accepts_games_up_to_each_limit(rt: HostRuntime) -> Result<(), Fail> {
+    Ok(run_rows(&rt, rt.alloc(), &KEPT)?)
+}
+
+#[test]
+fn refuses_large_games(rt: HostRuntime) -> Result<(), Fail> {
+    Ok(refuse_rows(&rt, rt.alloc(), &LARGE)?)
 }
 
 #[test]

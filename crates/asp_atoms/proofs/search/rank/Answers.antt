@@ -1,0 +1,18 @@
+use Rattle.std.proofs.Common.{◌≡◌, sym, refl, Ok, Err, rules}
+use Rattle.std.proofs.lemmas.Fn.{always_returns_same}
+use Rattle.asp_defs.specs.Constants.{const_cmp}
+use Rattle.asp_atoms.proofs.Orders.{const_lawful}
+use Rattle.asp_atoms.proofs.Positions.{found}
+use Rattle.asp_atoms.proofs.search.rank.Goals as goal
+
+pub returns-in-Ok : goal.returns-in-Ok
+returns-in-Ok c =
+    sym ((found const_lawful c.args.constants.now c.requires.ordered c.args.constant.now (Ok c.in-Ok.at) c.in-Ok.ensures.bound
+    (c.in-Ok.ensures.position (λ other. const_cmp other c.args.constant.now)
+    (always_returns_same _ (λ a r. r ≡ const_cmp a.0.now c.args.constant.now) _ (λ a r f k. search rules)))).1)
+
+pub returns-in-Err : goal.returns-in-Err
+returns-in-Err c =
+    sym (found const_lawful c.args.constants.now c.requires.ordered c.args.constant.now (Err c.in-Err.field-0) c.in-Err.ensures.bound
+    (c.in-Err.ensures.position (λ other. const_cmp other c.args.constant.now)
+    (always_returns_same _ (λ a r. r ≡ const_cmp a.0.now c.args.constant.now) _ (λ a r f k. search rules))))

@@ -1,0 +1,10 @@
+pub mod Ascending
+pub mod Written
+pub mod Universes
+pub mod Gaps
+pub mod Signatures
+pub mod Tuples
+pub mod Vocabularies
+pub mod Members
+pub mod Answers
+pub mod Laws

@@ -1,0 +1,157 @@
+//! The predicates of the levels.
+ghost use Rattle.std.specs.Prelude.{◌≡◌, ◌+◌, ◌++◌, [], map, length, IfOk, OnOk, is_some, position};
+ghost use Rattle.std.specs.List.{flat_map};
+ghost use Rattle.std.specs.Ordering.{is_eq};
+ghost use Rattle.asp_defs.specs.Lists.{numbers_from};
+ghost use Rattle.asp_defs.specs.Constants.{distinct};
+ghost use Rattle.asp_defs.specs.Bases.{
+  predicate_cmp,
+  atom_predicate,
+  literal_predicates,
+  element_predicates,
+  head_predicates,
+  rule_predicates,
+};
+ghost use Rattle.asp_atoms.specs.Ascending.{Ascends};
+ghost use Rattle.asp_atoms.specs.Signatures.{predicate_of, predicates_of, predicates_to};
+
+use asp_defs::{Atom, Element, Head, Literal, NoMemory, Rule};
+use std::alloc::Global;
+
+/// A predicate: a name with its arity. The name borrows its bytes.
+#[derive(Clone, Copy, Debug, PartialEq, Eq, PartialOrd, Ord)]
+pub struct Signature<'a> {
+    pub name: &'a [u8],
+    pub arity: usize,
+}
+
+/// The predicate of an atom.
+fn signature_of(atom: &Atom) -> Signature<'_>
+    ensures { predicate_of result ≡ atom_predicate atom.now }
+{
+    Signature {
+        name: atom.name.as_slice(),
+        arity: atom.args.len(),
+    }
+}
+
+/// Adds the predicates of a literal.
+fn add_literal<'a>(out: &mut Vec<Signature<'a>>, literal: &'a Literal) -> Result<(), NoMemory>
+    ensures { OnOk result (predicates_of out.new.items ≡ predicates_of out.old.items ++ literal_predicates literal.now) }
+{
+    match literal {
+        Literal::Pos(atom) => {
+            out.push(signature_of(atom))?;
+        }
+        Literal::Neg(atom) => {
+            out.push(signature_of(atom))?;
+        }
+        Literal::Cmp(..) => {}
+    }
+    Ok(())
+}
+
+/// Adds the predicates of literals.
+fn add_literals<'a>(out: &mut Vec<Signature<'a>>, literals: &'a [Literal]) -> Result<(), NoMemory>
+    ensures { OnOk result (predicates_of out.new.items ≡ predicates_of out.old.items ++ flat_map literal_predicates literals.now) }
+{
+    for literal in literals {
+        add_literal(out, literal)?;
+    }
+    Ok(())
+}
+
+/// Adds the predicates of atoms.
+fn add_atoms<'a>(out: &mut Vec<Signature<'a>>, atoms: &'a [Atom]) -> Result<(), NoMemory>
+    ensures { OnOk result (predicates_of out.new.items ≡ predicates_of out.old.items ++ map atom_predicate atoms.now) }
+{
+    for atom in atoms {
+        out.push(signature_of(atom))?;
+    }
+    Ok(())
+}
+
+/// Adds the predicates of an element.
+fn add_element<'a>(out: &mut Vec<Signature<'a>>, element: &'a Element) -> Result<(), NoMemory>
+    ensures { OnOk result (predicates_of out.new.items ≡ predicates_of out.old.items ++ element_predicates element.now) }
+{
+    out.push(signature_of(&element.atom))?;
+    add_literals(out, element.cond.as_slice())
+}
+
+/// Adds the predicates of elements.
+fn add_elements<'a>(out: &mut Vec<Signature<'a>>, elements: &'a [Element]) -> Result<(), NoMemory>
+    ensures { OnOk result (predicates_of out.new.items ≡ predicates_of out.old.items ++ flat_map element_predicates elements.now) }
+{
+    for element in elements {
+        add_element(out, element)?;
+    }
+    Ok(())
+}
+
+/// Adds the predicates of a head.
+fn add_head<'a>(out: &mut Vec<Signature<'a>>, head: &'a Head) -> Result<(), NoMemory>
+    ensures { OnOk result (predicates_of out.new.items ≡ predicates_of out.old.items ++ head_predicates head.now) }
+{
+    match head {
+        Head::Disj(atoms) => add_atoms(out, atoms.as_slice()),
+        Head::Choice(elements) => add_elements(out, elements.as_slice()),
+    }
+}
+
+/// Adds the predicates of a rule.
+fn add_rule<'a>(out: &mut Vec<Signature<'a>>, rule: &'a Rule) -> Result<(), NoMemory>
+    ensures { OnOk result (predicates_of out.new.items ≡ predicates_of out.old.items ++ rule_predicates rule.now) }
+{
+    add_head(out, &rule.head)?;
+    add_literals(out, rule.body.as_slice())
+}
+
+/// Adds the predicates of rules.
+fn add_rules<'a>(out: &mut Vec<Signature<'a>>, rules: &'a [Rule]) -> Result<(), NoMemory>
+    ensures { OnOk result (predicates_of out.new.items ≡ predicates_of out.old.items ++ flat_map rule_predicates rules.now) }
+{
+    for rule in rules {
+        add_rule(out, rule)?;
+    }
+    Ok(())
+}
+
+/// Predicates and those of further rules, ascending, each once.
+fn signatures_with<'a>(
+    alloc: Global,
+    before: &[Signature<'a>],
+    rules: &'a [Rule],
+) -> Result<Vec<Signature<'a>>, NoMemory>
+    ensures { IfOk result (λ out. predicates_of out.items ≡ distinct predicate_cmp (predicates_of before.now ++ flat_map rule_predicates rules.now)) }
+{
+    let mut signatures = Vec::from_slice(alloc, before)?;
+    add_rules(&mut signatures, rules)?;
+    signatures.sort_unstable();
+    signatures.dedup();
+    Ok(signatures)
+}
+
+/// The predicates of the levels: of none of them, of the first, and so on to those of all.
+pub fn signatures<'a>(
+    alloc: Global,
+    levels: &[&'a [Rule]],
+) -> Result<Vec<Vec<Signature<'a>>>, NoMemory>
+    ensures { IfOk result (λ out. map (λ s. predicates_of s.items) out.items ≡ map (predicates_to (map (λ l. l.now) levels.now)) (numbers_from 0 (length levels.now + 1))) }
+{
+    let mut signatures = Vec::new(alloc);
+    signatures.push(Vec::new(alloc))?;
+    for (at, rules) in levels.iter().enumerate() {
+        let next = signatures_with(alloc, signatures[at].as_slice(), rules)?;
+        signatures.push(next)?;
+    }
+    Ok(signatures)
+}
+
+/// Whether a predicate is one of some that ascend.
+pub fn is_among(signatures: &[Signature], wanted: &Signature) -> bool
+    requires { Ascends predicate_cmp (predicates_of signatures.now) }
+    ensures { result ≡ is_some (position (λ q. is_eq (predicate_cmp (predicate_of wanted.now) q)) (predicates_of signatures.now)) }
+{
+    signatures.binary_search(wanted).is_ok()
+}

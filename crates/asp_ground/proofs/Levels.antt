@@ -1,0 +1,247 @@
+-- The game of a checked program is that of its compiled rules.
+use Rattle.std.proofs.Common.{ℕ, zero, suc, ◌≡◌, ◌<◌, ◌≤◌, ◌+◌, refl, sym, ◌∙◌, ap, subst, inl, inr, Bool, true, Option, Some, None, List, [], ◌∷◌, map, take, length, get_or, arith, zero-add, length-append, min, max, ◌^◌}
+use Rattle.std.specs.Prelude.{if◌then◌else◌, nat_lt, IsTrue, is_none}
+use Rattle.std.specs.List.{flat_map, fold, enumerate_from}
+use Rattle.std.specs.Option.{option_or, option_map}
+use Rattle.std.proofs.lemmas.Bool.{ltb-false, le-ltb}
+use Rattle.std.proofs.lemmas.List.{length-map, get_or-map, take_all, map-id}
+use Rattle.asp_defs.specs.declared.faults.Which.{Which}
+use Rattle.asp_defs.specs.declared.faults.Which.TheVariants as which
+use Rattle.asp_defs.specs.declared.faults.Var.{Var as ShownVariable}
+use Rattle.asp_defs.specs.declared.ground.Const.{Const}
+use Rattle.asp_defs.specs.declared.syntax.Term.{Term}
+use Rattle.asp_defs.specs.declared.syntax.Rule.{Rule}
+use Rattle.asp_defs.specs.declared.syntax.Part.{Part}
+use Rattle.asp_defs.specs.declared.syntax.Program.{Program}
+use Rattle.asp_defs.specs.Lists.{IsIn, numbers_from}
+use Rattle.asp_defs.specs.Constants.{const_cmp, rule_constants, level_rules, rules_to, universe}
+use Rattle.asp_defs.specs.Bases.{Predicate, predicate_cmp, rule_predicates, predicates, base_atoms, last_level}
+use Rattle.asp_defs.specs.Instances.{rule_instances}
+use Rattle.asp_defs.specs.Games.{level_ground, game_of}
+use Rattle.asp_defs.specs.Safety.{all_rules, first_unsafe, first_unsafe_from, unsafe_in, shown_number, shown_variable}
+use Rattle.asp_defs.specs.Limits.{limit, past_limit, most_shown, variable_count, most_arguments, most_literals, most_variables, too_large_in}
+use Rattle.asp_defs.specs.Sizes.{constant_total, atom_total}
+use Rattle.asp_defs.specs.Checks.{CheckRefusal, UnsafeRule, PastLimit, safety_refusal, form_refusal, size_refusal, is_checked}
+use Rattle.asp_defs.proofs.Lists.{all_at, map_at, map_from, true_or_false}
+use Rattle.asp_defs.proofs.TextRefutations.{clash}
+use Rattle.asp_check.specs.Condition.{IsCheckable, has_intervals_in_facts}
+use Rattle.asp_check.proofs.Members.{flat_at, flat_from}
+use Rattle.asp_atoms.specs.Vocabularies.{unnumbered, numbered_from, const_rank, vocabulary_of}
+use Rattle.asp_atoms.specs.Answers.{base_too_large}
+use Rattle.asp_atoms.proofs.Assembling.{number_reads}
+use Rattle.asp_ground.specs.Ranks.{IsAscending, IsOrdered}
+use Rattle.asp_ground.specs.Compiled.{compiled_instances, level_instances, compiled_levels}
+use Rattle.asp_ground.proofs.Orders.{const_total, const_equal, predicate_total, predicate_equal}
+use Rattle.asp_ground.proofs.Ascending.{by_part}
+use Rattle.asp_ground.proofs.Members.{distinct_is_ascending, in_distinct, from_distinct, in_take}
+use Rattle.asp_ground.proofs.Products.{flat_map_same, map_same, map_map}
+use Rattle.asp_ground.proofs.Known.{Numbers}
+use Rattle.asp_ground.proofs.Numbers.{const_at, Stands, stands}
+use Rattle.asp_ground.proofs.FactInstances.{length-numbers_from}
+use Rattle.asp_ground.proofs.RuleInstances.{KnownRule, Ranked, rule_is}
+
+-- ---- the vocabulary ascends
+
+unnumbered_are : (size first : ℕ) (qs : List Predicate) → map unnumbered (numbered_from size first qs) ≡ qs
+unnumbered_are size first [] = refl
+unnumbered_are size first (q ∷ qs) = ap (λ (ps : List Predicate). q ∷ ps) (unnumbered_are size (first + size ^ q.arity) qs)
+
+pub vocabulary_is_ordered : (p : Program) → IsOrdered (vocabulary_of p)
+vocabulary_is_ordered p = record {
+  constants = distinct_is_ascending const_cmp const_total (flat_map rule_constants (rules_to p (last_level p)));
+  predicates = by_part predicate_cmp unnumbered (vocabulary_of p).predicates
+      (subst (λ (qs : List Predicate). IsAscending predicate_cmp qs) (sym (unnumbered_are (length (vocabulary_of p).constants) 0 (predicates p (last_level p))))
+      (distinct_is_ascending predicate_cmp predicate_total (flat_map rule_predicates (rules_to p (last_level p)))));
+}
+
+-- ---- limits
+
+abbrev limited : Bool → Which → ℕ → Option (Which × ℕ)
+limited past w count = if past then Some (w, min count most_shown) else None
+
+some_is_none : {A : Type 0} (x : A) → Some x ≡ None → ⊥
+some_is_none x e = clash (ap is_none e)
+
+within_limit : (w : Which) (count : ℕ) → past_limit w count ≡ None → count ≤ limit w
+within_limit w count e = elim (true_or_false (nat_lt (limit w) count)) [
+  | inl past ↦ let shown : Which × ℕ = (w, min count most_shown) in absurd (some_is_none shown (sym (ap (λ b. limited b w count) past) ∙ e))
+  | inr within ↦ ltb-false (limit w) count within
+]
+
+pub limit_kept : (w : Which) (count : ℕ) → count ≤ limit w → past_limit w count ≡ None
+limit_kept w count h = ap (λ b. limited b w count) (le-ltb (limit w) count h)
+
+record Small (p : Program) : Type 0 where
+  constants : length (vocabulary_of p).constants ≤ 4294967295
+  atoms : length (base_atoms p (last_level p)) ≤ 4294967295
+
+either_none : {A : Type 0} (a b : Option A) → option_or a b ≡ None → (a ≡ None) × (b ≡ None)
+either_none None b e = (refl, e)
+either_none (Some x) b e = absurd (cc)
+
+small : (p : Program) → base_too_large p ≡ None → Small p
+small p e =
+    let parts = either_none (past_limit which.Constants (constant_total p)) (past_limit which.Atoms (atom_total p)) e in
+    let few : constant_total p ≤ limit which.Constants = within_limit which.Constants (constant_total p) parts.0 in
+    let more : atom_total p ≤ limit which.Atoms = within_limit which.Atoms (atom_total p) parts.1 in
+    record { constants = omega (arith, few); atoms = omega (arith, more) }
+
+pub small_constants : (p : Program) → base_too_large p ≡ None → constant_total p ≤ 4096
+small_constants p e =
+    within_limit which.Constants (constant_total p) (either_none (past_limit which.Constants (constant_total p)) (past_limit which.Atoms (atom_total p)) e).0
+
+numbers_of : (p : Program) → base_too_large p ≡ None → Numbers (base_atoms p (last_level p)) (vocabulary_of p)
+numbers_of p e =
+    let s = small p e in
+    record { ordered = vocabulary_is_ordered p; few = s.constants; small = s.atoms; numbers = λ q args i same known. number_reads p q i args same known }
+
+-- ---- the rules of a checked program
+
+level_count : (p : Program) → length (level_rules p) ≡ last_level p
+level_count p =
+    length-append (map (λ (part : Part). part.rules) p.levels) (p.cons ∷ []) ∙ ap (λ n. n + 1) (length-map p.levels (λ (part : Part). part.rules))
+
+all_levels : (p : Program) → rules_to p (last_level p) ≡ all_rules p
+all_levels p =
+    let count = level_count p in
+    ap (flat_map (λ (rules : List Rule). rules)) (take_all (last_level p) (level_rules p) (omega (arith, count)))
+
+pub constant_known : (p : Program) (r : Rule) (c : Const) → IsIn r (all_rules p) → IsIn c (rule_constants r) → IsIn c (universe p (last_level p))
+constant_known p r c i j =
+    in_distinct const_cmp const_equal (flat_map rule_constants (rules_to p (last_level p))) c
+    (subst (λ (rules : List Rule). IsIn c (flat_map rule_constants rules)) (sym (all_levels p)) (flat_from rule_constants (all_rules p) r c i j))
+
+predicate_known : (p : Program) (r : Rule) (q : Predicate) → IsIn r (all_rules p) → IsIn q (rule_predicates r) → IsIn q (predicates p (last_level p))
+predicate_known p r q i j =
+    in_distinct predicate_cmp predicate_equal (flat_map rule_predicates (rules_to p (last_level p))) q
+    (subst (λ (rules : List Rule). IsIn q (flat_map rule_predicates rules)) (sym (all_levels p)) (flat_from rule_predicates (all_rules p) r q i j))
+
+-- each rule of a safe list is safe
+abbrev found_first : ℕ → List Rule → Option Term → Option (ℕ × ShownVariable)
+found_first n rules o = elim o [ None ↦ first_unsafe_from (suc n) rules | Some v ↦ Some (shown_number n, shown_variable v) ]
+
+safe_first : (n : ℕ) (x : Rule) (rules : List Rule) (r : Rule) (o : Option Term) → first_unsafe x ≡ o → first_unsafe_from n (x ∷ rules) ≡ None → IsIn r (x ∷ rules) → (first_unsafe_from (suc n) rules ≡ None → IsIn r rules → first_unsafe r ≡ None) → first_unsafe r ≡ None
+safe_first n x rules r None e h (inl same) behind = subst (λ (y : Rule). first_unsafe y ≡ None) (sym same) e
+safe_first n x rules r None e h (inr i) behind = behind (sym (ap (found_first n rules) e) ∙ h) i
+safe_first n x rules r (Some v) e h i behind =
+    let shown : ℕ × ShownVariable = (shown_number n, shown_variable v) in
+    absurd (some_is_none shown (sym (ap (found_first n rules) e) ∙ h))
+
+safe_each : (n : ℕ) (rules : List Rule) → first_unsafe_from n rules ≡ None → (r : Rule) → IsIn r rules → first_unsafe r ≡ None
+safe_each n [] h r i = absurd i
+safe_each n (x ∷ rules) h r i =
+    safe_first n x rules r (first_unsafe x) refl h i (λ k j. safe_each (suc n) rules k r j)
+
+none_found : (found : Option (ℕ × ShownVariable)) (rest : Option CheckRefusal) → is_none (option_or (option_map (λ f. UnsafeRule f.0 f.1) found) rest) ≡ true → found ≡ None
+none_found None rest h = refl
+none_found (Some f) rest h = clash h
+
+-- no rule has more variables than the limit allows
+most_grows : (first : ℕ) (counts : List ℕ) → first ≤ fold max first counts
+most_grows first [] = omega arith
+most_grows first (n ∷ counts) = let rest = most_grows (max first n) counts in omega (arith, rest)
+
+most_is : (first : ℕ) (counts : List ℕ) (n : ℕ) → IsIn n counts → n ≤ fold max first counts
+most_is first [] n i = absurd i
+most_is first (m ∷ counts) n (inl e) = let rest = most_grows (max first m) counts in omega (arith, e, rest)
+most_is first (m ∷ counts) n (inr i) = most_is (max first m) counts n i
+
+none_behind : (a b : Option CheckRefusal) → is_none (option_or a b) ≡ true → is_none b ≡ true
+none_behind None b h = h
+none_behind (Some x) b h = clash h
+
+none_large : (found : Option (Which × ℕ)) → is_none (option_map (λ f. PastLimit f.0 f.1) found) ≡ true → found ≡ None
+none_large None h = refl
+none_large (Some f) h = clash h
+
+few_variables : (p : Program) → IsTrue (is_checked p) → (r : Rule) → IsIn r (all_rules p) → variable_count r ≤ 16
+few_variables p checked r i =
+    let none = none_large (too_large_in p) (none_behind (form_refusal p) (size_refusal p) (none_behind (safety_refusal p) (option_or (form_refusal p) (size_refusal p)) checked)) in
+    let first = either_none (past_limit which.Levels (length p.levels)) (option_or (past_limit which.Arguments (most_arguments p)) (option_or (past_limit which.Literals (most_literals p)) (past_limit which.Variables (most_variables p)))) none in
+    let second = either_none (past_limit which.Arguments (most_arguments p)) (option_or (past_limit which.Literals (most_literals p)) (past_limit which.Variables (most_variables p))) first.1 in
+    let third = either_none (past_limit which.Literals (most_literals p)) (past_limit which.Variables (most_variables p)) second.1 in
+    let most : most_variables p ≤ 16 = within_limit which.Variables (most_variables p) third.1 in
+    let here : variable_count r ≤ most_variables p = most_is 0 (map variable_count (all_rules p)) (variable_count r) (map_from variable_count (all_rules p) r i) in
+    omega (arith, most, here)
+
+pub rule_known : (p : Program) → IsTrue (is_checked p) → IsCheckable p → (r : Rule) → IsIn r (all_rules p) → KnownRule (vocabulary_of p) r.head r.body
+rule_known p checked checkable r i = record {
+  constants = λ c j. constant_known p r c i j;
+  predicates = λ q j.
+      subst (λ (qs : List Predicate). IsIn q qs) (sym (unnumbered_are (length (vocabulary_of p).constants) 0 (predicates p (last_level p))))
+      (predicate_known p r q i j);
+  intervals = all_at has_intervals_in_facts (all_rules p) r checkable.intervals i;
+  safe = safe_each 1 (all_rules p) (none_found (unsafe_in p) (option_or (form_refusal p) (size_refusal p)) checked) r i;
+  few = few_variables p checked r i;
+}
+
+-- ---- universes
+
+at_number : (k n i : ℕ) → i < n → get_or (numbers_from k n) i 0 ≡ k + i
+at_number k zero i h = absurd (omega arith)
+at_number k (suc n) zero h = omega arith
+at_number k (suc n) (suc i) h =
+    let rest = at_number (suc k) n i (omega arith) in omega (arith, rest)
+
+universe_at : (p : Program) (i : ℕ) → i < last_level p + 1 → get_or (vocabulary_of p).universes i [] ≡ map (const_rank (vocabulary_of p).constants) (universe p i)
+universe_at p i h =
+    let count = length-numbers_from 0 (last_level p + 1) in
+    get_or-map (λ j. map (const_rank (vocabulary_of p).constants) (universe p j)) (numbers_from 0 (last_level p + 1)) i 0 [] (omega (arith, count))
+    ∙ ap (λ j. map (const_rank (vocabulary_of p).constants) (universe p j)) (at_number 0 (last_level p + 1) i h ∙ zero-add i)
+
+rule_to : (p : Program) (i : ℕ) (r : Rule) → IsIn r (rules_to p i) → IsIn r (all_rules p)
+rule_to p i r h =
+    let found = flat_at (λ (rules : List Rule). rules) (take i (level_rules p)) r h in
+    flat_from (λ (rules : List Rule). rules) (level_rules p) found.0 r (in_take i (level_rules p) found.0 found.1) found.2
+
+member_known : (p : Program) (i : ℕ) (c : Const) → IsIn c (universe p i) → IsIn c (vocabulary_of p).constants
+member_known p i c h =
+    let written = from_distinct const_cmp (flat_map rule_constants (rules_to p i)) c h in
+    let found = flat_at rule_constants (rules_to p i) c written in
+    constant_known p found.0 c (rule_to p i found.0 found.1) found.2
+
+member_stands : (p : Program) (i : ℕ) (c : Const) → IsIn c (universe p i) → Stands (vocabulary_of p).constants c
+member_stands p i c h = stands (vocabulary_of p).constants c (vocabulary_is_ordered p).constants (member_known p i c h)
+
+ranked_at : (p : Program) (i : ℕ) → i < last_level p + 1 → Ranked (vocabulary_of p) (universe p i) (get_or (vocabulary_of p).universes i [])
+ranked_at p i h = record {
+  same = sym (ap (map (const_at (vocabulary_of p).constants)) (universe_at p i h)
+      ∙ (map_map (const_at (vocabulary_of p).constants) (const_rank (vocabulary_of p).constants) (universe p i)
+      ∙ (map_same (λ c. const_at (vocabulary_of p).constants (const_rank (vocabulary_of p).constants c)) (λ c. c) (universe p i) (λ c j. (member_stands p i c j).here)
+      ∙ map-id (universe p i))));
+  below = λ rank j.
+      let found = map_at (const_rank (vocabulary_of p).constants) (universe p i) rank (subst (λ (rs : List ℕ). IsIn rank rs) (universe_at p i h) j) in
+      subst (λ n. n < length (vocabulary_of p).constants) (sym found.2) (member_stands p i found.0 found.1).inside;
+}
+
+-- ---- levels
+
+record Placed (k : ℕ) (levels : List (List Rule)) (level : ℕ × List Rule) : Type 0 where
+  low : k ≤ level.0
+  high : level.0 < k + length levels
+  member : IsIn level.1 levels
+
+placed : (k : ℕ) (levels : List (List Rule)) (level : ℕ × List Rule) → IsIn level (enumerate_from k levels) → Placed k levels level
+placed k [] level i = absurd i
+placed k (rules ∷ levels) level (inl e) =
+    let number : level.0 ≡ k = ap (λ (l : ℕ × List Rule). l.0) e in
+    record { low = omega (arith, number); high = omega (arith, number); member = inl (ap (λ (l : ℕ × List Rule). l.1) e) }
+placed k (rules ∷ levels) level (inr i) =
+    let rest = placed (k + 1) levels level i in
+    let low = rest.low in
+    let high = rest.high in
+    record { low = omega (arith, low); high = omega (arith, high); member = inr rest.member }
+
+level_is : (p : Program) (level : ℕ × List Rule) → IsTrue (is_checked p) → IsCheckable p → base_too_large p ≡ None → IsIn level (enumerate_from 1 (level_rules p)) → level_instances (vocabulary_of p) level ≡ level_ground p level
+level_is p level checked checkable e i =
+    let place = placed 1 (level_rules p) level i in
+    let count = level_count p in
+    let high = place.high in
+    let within : level.0 < last_level p + 1 = omega (arith, count, high) in
+    flat_map_same (compiled_instances (vocabulary_of p) (get_or (vocabulary_of p).universes level.0 [])) (rule_instances (base_atoms p (last_level p)) (universe p level.0)) level.1
+    (λ r j. sym (rule_is (base_atoms p (last_level p)) (vocabulary_of p) (universe p level.0) (get_or (vocabulary_of p).universes level.0 []) r (numbers_of p e) (ranked_at p level.0 within)
+    (rule_known p checked checkable r (flat_from (λ (rules : List Rule). rules) (level_rules p) level.1 r place.member j))))
+
+pub levels_are : (p : Program) → IsTrue (is_checked p) → IsCheckable p → base_too_large p ≡ None → compiled_levels (vocabulary_of p) p ≡ (game_of p).rules
+levels_are p checked checkable e =
+    map_same (level_instances (vocabulary_of p)) (level_ground p) (enumerate_from 1 (level_rules p)) (λ level i. level_is p level checked checkable e i)

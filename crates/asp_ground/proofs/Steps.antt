@@ -1,0 +1,132 @@
+-- Steps of loops, and lists that two calls add to.
+use Rattle.std.proofs.Common.{ℕ, zero, suc, ◌≡◌, ◌<◌, ◌≤◌, ◌+◌, refl, sym, ◌∙◌, ap, subst, Bool, true, false, List, [], ◌∷◌, ◌++◌, map, take, length, get_or, arith, append_assoc, append-nil, zero-add}
+use Rattle.std.specs.List.{flat_map, fold, list_any, position_or_len, enumerate_from}
+use Rattle.std.proofs.lemmas.List.{take_more, take_all, get_or-map, length-map, length-take}
+use Rattle.asp_defs.specs.Lists.{numbers_from}
+use Rattle.asp_defs.specs.Bases.{product}
+use Rattle.asp_defs.proofs.Lists.{or_left, or_right}
+use Rattle.asp_ground.proofs.Ascending.{first_place, no_place}
+use Rattle.asp_ground.proofs.Products.{flat_map_same, flat_map_map, flat_map_append, flat_map_flat_map}
+
+-- ---- places in a list under a function
+
+pub mapped_place : {A B : Type 0} (f : A → B) (p : B → Bool) (xs : List A) (i : ℕ) (d : A) → i < length xs → p (f (get_or xs i d)) ≡ true → ((k : ℕ) (e : A) → k < i → p (f (get_or xs k e)) ≡ false) → position_or_len p (map f xs) ≡ i
+mapped_place {A} {B} f p xs i d h here before =
+    let long = length-map xs f in
+    first_place p (map f xs) i (f d) (omega (arith, long)) (subst (λ (y : B). p y ≡ true) (sym (get_or-map f xs i d (f d) h)) here)
+    (λ k l. subst (λ (y : B). p y ≡ false) (sym (get_or-map f xs k d (f d) (omega arith))) (before k d l))
+
+pub mapped_none : {A B : Type 0} (f : A → B) (p : B → Bool) (xs : List A) (n : ℕ) → length xs ≤ n → ((k : ℕ) (e : A) → k < n → p (f (get_or xs k e)) ≡ false) → position_or_len p (map f xs) ≡ length xs
+mapped_none f p [] n h none = refl
+mapped_none {A} {B} f p (x ∷ xs) n h none =
+    let long = length-map (x ∷ xs) f in
+    no_place p (map f (x ∷ xs)) (f x) (λ k l. subst (λ (y : B). p y ≡ false) (sym (get_or-map f (x ∷ xs) k x (f x) (omega (arith, long)))) (none k x (omega (arith, long))))
+    ∙ long
+
+pub mapped_any : {A B : Type 0} (f : A → B) (p : B → Bool) (xs : List A) (i : ℕ) (d : A) → i < length xs → p (f (get_or xs i d)) ≡ true → list_any p (map f xs) ≡ true
+mapped_any f p [] i d h here = absurd (omega arith)
+mapped_any f p (x ∷ xs) zero d h here = or_left (p (f x)) (list_any p (map f xs)) here
+mapped_any f p (x ∷ xs) (suc i) d h here = or_right (p (f x)) (list_any p (map f xs)) (mapped_any f p xs i d (omega arith) here)
+
+-- ---- lists that grow
+
+pub grows : {A B : Type 0} (f : A → List B) (old now next : List B) (xs : List A) (i : ℕ) (d : A) → i < length xs → now ≡ old ++ flat_map f (take i xs) → next ≡ now ++ f (get_or xs i d) → next ≡ old ++ flat_map f (take (i + 1) xs)
+grows f old now next xs i d h so_far step =
+    step
+    ∙ (ap (λ ys. ys ++ f (get_or xs i d)) so_far
+    ∙ (append_assoc old (flat_map f (take i xs)) (f (get_or xs i d))
+    ∙ ap (λ ys. old ++ ys) (sym (ap (flat_map f) (take_more xs i d h) ∙ (flat_map_append f (take i xs) (get_or xs i d ∷ []) ∙ ap (λ ys. flat_map f (take i xs) ++ ys) (append-nil (f (get_or xs i d))))))))
+
+-- the same from what a read of the list gives
+pub grows_item : {A B : Type 0} (f : A → List B) (old now next : List B) (xs : List A) (i : ℕ) (x : A) → i < length xs → x ≡ get_or xs i x → now ≡ old ++ flat_map f (take i xs) → next ≡ now ++ f x → next ≡ old ++ flat_map f (take (i + 1) xs)
+grows_item f old now next xs i x h is so_far step = grows f old now next xs i x h so_far (step ∙ ap (λ y. now ++ f y) is)
+
+pub two_adds : {A B : Type 0} (f : A → List B) (start middle end : List B) (xs ys : List A) → start ≡ [] → middle ≡ start ++ flat_map f xs → end ≡ middle ++ flat_map f ys → end ≡ flat_map f (xs ++ ys)
+two_adds f start middle end xs ys first second third =
+    third
+    ∙ (ap (λ zs. zs ++ flat_map f ys) (second ∙ ap (λ zs. zs ++ flat_map f xs) first)
+    ∙ sym (flat_map_append f xs ys))
+
+pub map_append : {A B : Type 0} (g : A → B) (xs ys : List A) → map g (xs ++ ys) ≡ map g xs ++ map g ys
+map_append g [] ys = refl
+map_append g (x ∷ xs) ys = ap (λ zs. g x ∷ zs) (map_append g xs ys)
+
+pub two_adds_mapped : {A B C : Type 0} (g : B → C) (f : A → List B) (start middle end : List C) (xs ys : List A) → start ≡ [] → middle ≡ start ++ map g (flat_map f xs) → end ≡ middle ++ map g (flat_map f ys) → end ≡ map g (flat_map f (xs ++ ys))
+two_adds_mapped g f start middle end xs ys first second third =
+    third
+    ∙ (ap (λ zs. zs ++ map g (flat_map f ys)) (second ∙ ap (λ zs. zs ++ map g (flat_map f xs)) first)
+    ∙ (sym (map_append g (flat_map f xs) (flat_map f ys)) ∙ ap (map g) (sym (flat_map_append f xs ys))))
+
+fold_append : {A B : Type 0} (f : B → A → B) (b : B) (xs ys : List A) → fold f b (xs ++ ys) ≡ fold f (fold f b xs) ys
+fold_append f b [] ys = refl
+fold_append f b (x ∷ xs) ys = fold_append f (f b x) xs ys
+
+pub fold_two : {A B : Type 0} (f : B → A → B) (start middle end : B) (xs ys : List A) → middle ≡ fold f start xs → end ≡ fold f middle ys → end ≡ fold f start (xs ++ ys)
+fold_two f start middle end xs ys first second =
+    second ∙ (ap (λ b. fold f b ys) first ∙ sym (fold_append f start xs ys))
+
+pub fold_grows : {A B C : Type 0} (f : B → C → B) (g : A → List C) (start now next : B) (xs : List A) (i : ℕ) (d : A) → i < length xs → now ≡ fold f start (flat_map g (take i xs)) → next ≡ fold f now (g (get_or xs i d)) → next ≡ fold f start (flat_map g (take (i + 1) xs))
+fold_grows f g start now next xs i d h so_far step =
+    fold_two f start now next (flat_map g (take i xs)) (g (get_or xs i d)) so_far step
+    ∙ ap (fold f start) (sym (ap (flat_map g) (take_more xs i d h) ∙ (flat_map_append g (take i xs) (get_or xs i d ∷ []) ∙ ap (λ ys. flat_map g (take i xs) ++ ys) (append-nil (g (get_or xs i d))))))
+
+abbrev pub pair : {A : Type 0} → ℕ → A → ℕ × A
+pair n x = (n, x)
+
+-- one number more
+pub numbers_more : (k n : ℕ) → numbers_from k (n + 1) ≡ numbers_from k n ++ (k + n) ∷ []
+numbers_more k zero = let same : k ≡ k + zero = omega arith in ap (λ m. m ∷ []) same
+numbers_more k (suc n) =
+    let next : suc n + 1 ≡ suc (n + 1) = omega arith in
+    let last : suc k + n ≡ k + suc n = omega arith in
+    ap (numbers_from k) next ∙ ap (λ ns. k ∷ ns) (numbers_more (suc k) n ∙ ap (λ m. numbers_from (suc k) n ++ m ∷ []) last)
+
+pub mapped_numbers_more : {A : Type 0} (f : ℕ → A) (n : ℕ) → map f (numbers_from 0 (n + 1)) ≡ map f (numbers_from 0 n) ++ f n ∷ []
+mapped_numbers_more f n =
+    ap (map f) (numbers_more 0 n)
+    ∙ (map_append f (numbers_from 0 n) ((0 + n) ∷ []) ∙ ap (λ m. map f (numbers_from 0 n) ++ f m ∷ []) (zero-add n))
+
+-- ---- levels by their numbers
+
+pub enumerate_more : {A : Type 0} (k : ℕ) (xs : List A) (x : A) → enumerate_from k (xs ++ x ∷ []) ≡ enumerate_from k xs ++ (k + length xs, x) ∷ []
+enumerate_more {A} k [] x = let same : k ≡ k + 0 = omega arith in ap (λ (n : ℕ). pair n x ∷ []) same
+enumerate_more {A} k (y ∷ xs) x =
+    let next : k + 1 + length xs ≡ k + suc (length xs) = omega arith in
+    ap (λ ys. pair k y ∷ ys) (enumerate_more (k + 1) xs x ∙ ap (λ (n : ℕ). enumerate_from (k + 1) xs ++ pair n x ∷ []) next)
+
+pub level_more : {A B C : Type 0} (f : ℕ × B → C) (g : A → B) (xs : List A) (i : ℕ) (x : A) (now next : List C) (y : C) → i < length xs → x ≡ get_or xs i x → now ≡ map f (enumerate_from 1 (map g (take i xs))) → next ≡ now ++ y ∷ [] → y ≡ f (pair (i + 1) (g x)) → next ≡ map f (enumerate_from 1 (map g (take (i + 1) xs)))
+level_more f g xs i x now next y h is so_far added made =
+    let long = length-map (take i xs) g in
+    let whole = length-take i xs in
+    let number : 1 + length (map g (take i xs)) ≡ i + 1 = omega (arith, long, whole) in
+    added
+    ∙ (ap (λ ys. ys ++ y ∷ []) so_far
+    ∙ (ap (λ z. map f (enumerate_from 1 (map g (take i xs))) ++ z ∷ []) made
+    ∙ sym (ap (λ ys. map f (enumerate_from 1 (map g ys))) (take_more xs i x h ∙ ap (λ z. take i xs ++ z ∷ []) (sym is))
+    ∙ (ap (λ ys. map f (enumerate_from 1 ys)) (map_append g (take i xs) (x ∷ []))
+    ∙ (ap (map f) (enumerate_more 1 (map g (take i xs)) (g x))
+    ∙ (map_append f (enumerate_from 1 (map g (take i xs))) (pair (1 + length (map g (take i xs))) (g x) ∷ [])
+    ∙ ap (λ n. map f (enumerate_from 1 (map g (take i xs))) ++ f (pair n (g x)) ∷ []) number))))))
+
+pub level_last : {A B C : Type 0} (f : ℕ × B → C) (g : A → B) (xs : List A) (last : B) (i : ℕ) (now next : List C) (y : C) → length xs ≤ i → now ≡ map f (enumerate_from 1 (map g (take i xs))) → next ≡ now ++ y ∷ [] → y ≡ f (pair (length xs + 1) last) → next ≡ map f (enumerate_from 1 (map g xs ++ last ∷ []))
+level_last f g xs last i now next y h so_far added made =
+    let long = length-map xs g in
+    let number : length xs + 1 ≡ 1 + length (map g xs) = omega (arith, long) in
+    added
+    ∙ (ap (λ ys. ys ++ y ∷ []) (so_far ∙ ap (λ ys. map f (enumerate_from 1 (map g ys))) (take_all i xs h))
+    ∙ (ap (λ z. map f (enumerate_from 1 (map g xs)) ++ z ∷ []) (made ∙ ap (λ n. f (pair n last)) number)
+    ∙ (sym (map_append f (enumerate_from 1 (map g xs)) (pair (1 + length (map g xs)) last ∷ []))
+    ∙ ap (map f) (sym (enumerate_more 1 (map g xs) last)))))
+
+-- ---- the odometer: the first of some lists runs, and the others behind it
+
+pub odometer : {A B : Type 0} (f : List A → List B) (front : List A) (first : List A) (rest : List (List A)) → flat_map (λ x. flat_map (λ tuple. f ((front ++ x ∷ []) ++ tuple)) (product rest)) first ≡ flat_map (λ tuple. f (front ++ tuple)) (product (first ∷ rest))
+odometer {A} f front first rest =
+    flat_map_same (λ x. flat_map (λ tuple. f ((front ++ x ∷ []) ++ tuple)) (product rest)) (λ x. flat_map (λ tuple. f (front ++ tuple)) (map (λ tuple. x ∷ tuple) (product rest))) first
+    (λ x i. flat_map_same (λ tuple. f ((front ++ x ∷ []) ++ tuple)) (λ tuple. f (front ++ x ∷ tuple)) (product rest) (λ tuple j. ap f (append_assoc front (x ∷ []) tuple))
+    ∙ sym (flat_map_map (λ tuple. f (front ++ tuple)) (λ tuple. x ∷ tuple) (product rest)))
+    ∙ sym (flat_map_flat_map (λ tuple. f (front ++ tuple)) (λ x. map (λ tuple. x ∷ tuple) (product rest)) first)
+
+-- where nothing is left to run there is one way
+pub odometer_end : {A B : Type 0} (f : List A → List B) (front : List A) → flat_map (λ tuple. f (front ++ tuple)) (product []) ≡ f front
+odometer_end f front = append-nil (f (front ++ [])) ∙ ap f (append-nil front)

@@ -1,0 +1,40 @@
+-- The variables of a rule as they are found from the front, and its schemas with them. All definitions are transparent.
+use Rattle.std.specs.Prelude.{nat_lt, true, false, if◌then◌else◌, List, [], ◌∷◌, ◌++◌, length}
+use Rattle.std.specs.List.{flat_map, fold}
+use Rattle.asp_defs.specs.declared.syntax.Term.{Term}
+use Rattle.asp_defs.specs.declared.syntax.Term.TheVariants.{Var, Anon}
+use Rattle.asp_defs.specs.declared.syntax.Atom.{Atom}
+use Rattle.asp_defs.specs.declared.syntax.Literal.{Literal}
+use Rattle.asp_defs.specs.declared.syntax.Element.{Element}
+use Rattle.asp_defs.specs.Instances.{Schema, atom_variables, literal_variables}
+use Rattle.asp_defs.specs.Safety.{is_variable_of}
+use Rattle.asp_ground.specs.declared.variables.Variable.{Variable}
+use Rattle.asp_ground.specs.declared.variables.Variable.TheVariants as variants
+
+-- a variable without where its name lies in memory
+abbrev pub term_of : Variable → Term
+term_of (variants.Named name) = Var name.now
+term_of (variants.Anon number) = Anon number
+
+-- variables with one more, where it is another one and there is room: a checked rule has at most 16
+abbrev pub with_variable : List Term → Term → List Term
+with_variable found v =
+    if is_variable_of found v then found else (if nat_lt (length found) 17 then found ++ v ∷ [] else found)
+
+-- the variables of a disjunctive rule, and of an element with a body
+abbrev pub disjunctive_variables : List Atom → List Literal → List Term
+disjunctive_variables atoms body =
+    fold with_variable [] (flat_map atom_variables atoms ++ flat_map literal_variables body)
+
+abbrev pub element_variables : List Literal → Element → List Term
+element_variables body e = fold with_variable []
+    (atom_variables e.atom ++ (flat_map literal_variables e.cond ++ flat_map literal_variables body))
+
+-- the schemas with these variables
+abbrev pub found_disjunctive : List Atom → List Literal → Schema
+found_disjunctive atoms body =
+    record { choice = false; heads = atoms; body = body; variables = disjunctive_variables atoms body }
+
+abbrev pub found_element : List Literal → Element → Schema
+found_element body e =
+    record { choice = true; heads = e.atom ∷ []; body = body ++ e.cond; variables = element_variables body e }

@@ -1,0 +1,142 @@
+//! How many instances a program has.
+ghost use Rattle.std.specs.Prelude.{◌≡◌, ◌+◌, ◌*◌, ◌^◌, ◌++◌, [], None, map, min, length};
+ghost use Rattle.std.specs.List.{flat_map, fold, sum_by};
+ghost use Rattle.asp_defs.specs.Bases.{bases_of};
+ghost use Rattle.asp_defs.specs.Limits.{most_shown};
+ghost use Rattle.asp_defs.specs.Sizes.{instance_total};
+ghost use Rattle.asp_atoms.specs.Answers.{base_too_large};
+ghost use Rattle.asp_ground.specs.Variables.{disjunctive_variables, element_variables};
+ghost use Rattle.asp_ground.specs.Counts.{
+  shown,
+  choice_count,
+  fact_count,
+  head_count,
+  rule_count,
+};
+
+use crate::constants::{Constants, add_rules};
+use crate::facts::interval_length;
+use crate::variables::{disjunctive_variables, element_variables};
+use asp_check::Checked;
+use asp_defs::{Atom, Bases, Element, Head, Literal, Rule, Term};
+
+/// The greatest count that is shown.
+const MOST_SHOWN: u64 = 1_000_000_000_000_000_000;
+
+/// A sum, at most the greatest count that is shown.
+fn sum(left: u64, right: u64) -> u64
+    ensures { result ≡ shown (left + right) }
+{
+    left.saturating_add(right).min(MOST_SHOWN)
+}
+
+/// A product, at most the greatest count that is shown.
+fn product(left: u64, right: u64) -> u64
+    ensures { result ≡ shown (left * right) }
+{
+    left.saturating_mul(right).min(MOST_SHOWN)
+}
+
+/// A power, at most the greatest count that is shown.
+fn power(size: u64, exponent: usize) -> u64
+    ensures { result ≡ shown (size ^ exponent) }
+{
+    let mut count = 1_u64;
+    for _place in 0..exponent {
+        count = product(count, size);
+    }
+    count
+}
+
+/// For how many terms an argument stands.
+fn choice_count(term: &Term) -> u64
+    ensures { result ≡ choice_count term.now }
+{
+    match term {
+        Term::Int(_) => 1,
+        Term::Sym(_) => 1,
+        Term::Var(_) => 1,
+        Term::Anon(_) => 1,
+        Term::Range(low, high) => interval_length(*low, *high),
+    }
+}
+
+/// For how many facts a fact stands.
+fn fact_count(atom: &Atom) -> u64
+    ensures { result ≡ shown (fact_count atom.now) }
+{
+    let args = atom.args.as_slice();
+    let mut count = 1_u64;
+    for term in args {
+        count = product(count, choice_count(term));
+    }
+    count
+}
+
+/// How many instances the elements of a choice have over so many constants.
+fn elements_count(size: u64, elements: &[Element], body: &[Literal]) -> u64
+    ensures { result ≡ shown (sum_by (λ e. size ^ length (element_variables body.now e)) elements.now) }
+{
+    let mut count = 0_u64;
+    for element in elements {
+        count = sum(count, power(size, element_variables(body, element).len()));
+    }
+    count
+}
+
+/// How many instances a disjunctive rule has over so many constants.
+fn disjunction_count(size: u64, atoms: &[Atom], body: &[Literal]) -> u64
+    ensures { result ≡ shown (head_count size (Head.Disj atoms.now) body.now) }
+{
+    if atoms.len() == 1 && body.len() == 0 {
+        fact_count(&atoms[0])
+    } else {
+        power(size, disjunctive_variables(atoms, body).len())
+    }
+}
+
+/// How many instances a rule has over so many constants.
+fn rule_count(size: u64, rule: &Rule) -> u64
+    ensures { result ≡ shown (rule_count size rule.now) }
+{
+    let body = rule.body.as_slice();
+    match &rule.head {
+        Head::Disj(atoms) => disjunction_count(size, atoms.as_slice(), body),
+        Head::Choice(elements) => elements_count(size, elements.as_slice(), body),
+    }
+}
+
+/// How many instances rules have over so many constants.
+fn rules_count(size: u64, rules: &[Rule]) -> u64
+    ensures { result ≡ shown (sum_by (rule_count size) rules.now) }
+{
+    let mut count = 0_u64;
+    for rule in rules {
+        count = sum(count, rule_count(size, rule));
+    }
+    count
+}
+
+/// How many instances a program has, before comparisons are looked at: at most 10^18 is answered.
+///
+/// The universes aren't to be had from the bases where no predicate has an argument, so the constants are gathered from
+/// the program, which is linear in its length but for the places of constants among each other.
+pub fn count(checked: &Checked, bases: &Bases) -> u64
+    requires bases { bases.now ≡ bases_of checked.now }
+    requires small { base_too_large checked.now ≡ None }
+    ensures { result ≡ min (instance_total checked.now) most_shown }
+{
+    let _ = bases;
+    let program = checked.program();
+    let levels = program.levels.as_slice();
+    let mut found = Constants::new();
+    let mut count = 0_u64;
+    for level in levels {
+        let rules = level.rules.as_slice();
+        add_rules(&mut found, rules);
+        count = sum(count, rules_count(found.len() as u64, rules));
+    }
+    let cons = program.cons.as_slice();
+    add_rules(&mut found, cons);
+    sum(count, rules_count(found.len() as u64, cons))
+}

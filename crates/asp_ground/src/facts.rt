@@ -1,0 +1,150 @@
+//! The instances of facts, whose arguments may be intervals.
+ghost use Rattle.std.specs.Prelude.{◌≡◌, ◌<◌, ◌++◌, ◌+ℤ◌, pos, map, IfOk, OnOk};
+ghost use Rattle.asp_defs.specs.Constants.{const_cmp, interval_length};
+ghost use Rattle.asp_defs.specs.Lists.{numbers_from};
+ghost use Rattle.asp_ground.specs.Ranks.{IsAscending, IsOrdered};
+ghost use Rattle.asp_ground.specs.Compiled.{argument_ranks, fact_template, fact_instances};
+
+use crate::instances::add_all;
+use crate::ranks::{Key, capped, first_of, rank_of};
+use crate::template::{AtomTemplate, Slot, Template};
+use asp_atoms::Vocabulary;
+use asp_defs::{Atom, Const, GroundRule, List, NoMemory, Term};
+use std::alloc::Global;
+
+/// How many integers an interval has: none where its ends are swapped.
+pub fn interval_length(low: i32, high: i32) -> u64
+    ensures { result ≡ interval_length low high }
+{
+    if low <= high {
+        (i64::from(high) - i64::from(low) + 1) as u64
+    } else {
+        0
+    }
+}
+
+/// The integer so many steps behind another, where it is one of 32 bits.
+pub fn stepped(low: i32, high: i32, step: u64) -> i32
+    requires { step < interval_length low high }
+    ensures { result ≡ low +ℤ pos step }
+{
+    (i64::from(low) + step as i64) as i32
+}
+
+/// The ranks of the integers of an interval.
+fn interval_ranks(
+    alloc: Global,
+    constants: &[Const],
+    low: i32,
+    high: i32,
+) -> Result<Vec<u32>, NoMemory>
+    requires { IsAscending const_cmp constants.now }
+    ensures { IfOk result (λ ranks. ranks.items ≡ argument_ranks constants.now (Term.Range low high)) }
+{
+    let mut ranks = Vec::new(alloc);
+    for step in 0..interval_length(low, high) {
+        let value = stepped(low, high, step);
+        ranks.push(rank_of(constants, Key::Int(value)))?;
+    }
+    Ok(ranks)
+}
+
+/// The ranks that an argument stands for.
+fn argument_ranks(alloc: Global, constants: &[Const], term: &Term) -> Result<Vec<u32>, NoMemory>
+    requires { IsAscending const_cmp constants.now }
+    ensures { IfOk result (λ ranks. ranks.items ≡ argument_ranks constants.now term.now) }
+{
+    let mut ranks = Vec::new(alloc);
+    match term {
+        Term::Int(value) => ranks.push(rank_of(constants, Key::Int(*value)))?,
+        Term::Sym(name) => ranks.push(rank_of(constants, Key::Sym(name.as_slice())))?,
+        Term::Var(_) => {}
+        Term::Anon(_) => {}
+        Term::Range(low, high) => return interval_ranks(alloc, constants, *low, *high),
+    }
+    Ok(ranks)
+}
+
+/// The ranks that each argument stands for.
+fn all_argument_ranks(
+    alloc: Global,
+    constants: &[Const],
+    terms: &[Term],
+) -> Result<List<List<u32>>, NoMemory>
+    requires { IsAscending const_cmp constants.now }
+    ensures { IfOk result (λ ranks. ranks ≡ map (argument_ranks constants.now) terms.now) }
+{
+    let mut ranks = Vec::with_capacity(alloc, terms.len())?;
+    for term in terms {
+        ranks.push(List::from_vec(argument_ranks(alloc, constants, term)?))?;
+    }
+    Ok(List::from_vec(ranks))
+}
+
+/// The slices of lists.
+fn slices(alloc: Global, lists: &[List<u32>]) -> Result<Vec<&[u32]>, NoMemory>
+    ensures { IfOk result (λ slices. map (λ s. s.now) slices.items ≡ lists.now) }
+{
+    let mut slices = Vec::with_capacity(alloc, lists.len())?;
+    for list in lists {
+        slices.push(list.as_slice())?;
+    }
+    Ok(slices)
+}
+
+/// As many variables as asked for, in their order.
+fn variables(alloc: Global, count: usize) -> Result<List<Slot>, NoMemory>
+    ensures { IfOk result (λ slots. slots ≡ map Slot.Variable (numbers_from 0 count)) }
+{
+    let mut slots = Vec::with_capacity(alloc, count)?;
+    for place in 0..count {
+        slots.push(Slot::Variable(place))?;
+    }
+    Ok(List::from_vec(slots))
+}
+
+/// The template of a fact whose arguments run through ranks.
+fn fact_template(alloc: Global, vocabulary: &Vocabulary, atom: &Atom) -> Result<Template, NoMemory>
+    requires { IsOrdered vocabulary.now }
+    ensures { IfOk result (λ template. template ≡ fact_template vocabulary.now atom.now) }
+{
+    let args = atom.args.as_slice();
+    let first = first_of(
+        vocabulary.predicates.as_slice(),
+        atom.name.as_slice(),
+        args.len(),
+    );
+    let slots = variables(alloc, args.len())?;
+    let mut heads = List::new(alloc);
+    heads.push(AtomTemplate { first, slots })?;
+    Ok(Template {
+        choice: false,
+        heads,
+        comparisons: List::new(alloc),
+        pos: List::new(alloc),
+        neg: List::new(alloc),
+    })
+}
+
+/// Adds the instances of a fact.
+pub fn add_fact(
+    alloc: Global,
+    out: &mut List<GroundRule>,
+    vocabulary: &Vocabulary,
+    atom: &Atom,
+) -> Result<(), NoMemory>
+    requires { IsOrdered vocabulary.now }
+    ensures { OnOk result (out.new ≡ out.old ++ fact_instances vocabulary.now atom.now) }
+{
+    let constants = vocabulary.constants.as_slice();
+    let template = fact_template(alloc, vocabulary, atom)?;
+    let ranks = all_argument_ranks(alloc, constants, atom.args.as_slice())?;
+    let domains = slices(alloc, ranks.as_slice())?;
+    add_all(
+        alloc,
+        out,
+        capped(constants.len()),
+        &template,
+        domains.as_slice(),
+    )
+}

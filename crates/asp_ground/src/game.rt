@@ -1,0 +1,80 @@
+//! The game of a program.
+ghost use Rattle.std.specs.Prelude.{◌≡◌, None, map, IfOk, IfErr, OnOk};
+ghost use Rattle.asp_defs.specs.Bases.{bases_of};
+ghost use Rattle.asp_defs.specs.Games.{game_of};
+ghost use Rattle.asp_defs.specs.Limits.{past_limit};
+ghost use Rattle.asp_defs.specs.Sizes.{instance_total};
+ghost use Rattle.asp_atoms.specs.Answers.{base_too_large};
+ghost use Rattle.asp_ground.specs.Ranks.{IsOrdered};
+ghost use Rattle.asp_ground.specs.Compiled.{compiled_levels};
+ghost use Rattle.asp_ground.specs.Faults.{IsInstanceFault};
+
+use crate::counts::count;
+use crate::rules::level_rules;
+use asp_atoms::{Vocabulary, vocabulary};
+use asp_check::Checked;
+use asp_defs::{Bases, Game, GroundRule, List, NoMemory, Part, Program, Quant, SizeFault, Which};
+use std::alloc::Global;
+
+/// The most instances of a program.
+const MOST_INSTANCES: u64 = 4_000_000;
+
+/// The quantifiers of levels.
+fn quants(alloc: Global, levels: &[Part]) -> Result<List<Quant>, NoMemory>
+    ensures { IfOk result (λ quants. quants ≡ map (λ part. part.quant) levels.now) }
+{
+    let mut quants = Vec::with_capacity(alloc, levels.len())?;
+    for level in levels {
+        quants.push(level.quant)?;
+    }
+    Ok(List::from_vec(quants))
+}
+
+/// The instances of the rules of all levels, and last those of the constraint part.
+fn levels_rules(
+    alloc: Global,
+    vocabulary: &Vocabulary,
+    program: &Program,
+) -> Result<List<List<GroundRule>>, NoMemory>
+    requires { IsOrdered vocabulary.now }
+    ensures { IfOk result (λ rules. rules ≡ compiled_levels vocabulary.now program.now) }
+{
+    let levels = program.levels.as_slice();
+    let mut rules = Vec::with_capacity(alloc, levels.len() + 1)?;
+    for (place, level) in levels.iter().enumerate() {
+        rules.push(level_rules(alloc, vocabulary, place + 1, level.rules.as_slice())?)?;
+    }
+    rules.push(level_rules(alloc, vocabulary, levels.len() + 1, program.cons.as_slice())?)?;
+    Ok(List::from_vec(rules))
+}
+
+/// The game of a program: all instances of all its rules. An instance whose comparisons are false is left out, and true
+/// comparisons are removed.
+///
+/// The time is linear in the instances and their literals. An instance takes 80 bytes, and each of its literals 4.
+///
+/// # Errors
+///
+/// `TooLarge` where the program has more than 4,000,000 instances, counted before comparisons are looked at. `NoMemory`
+/// where memory runs out.
+pub fn ground(alloc: Global, checked: &Checked, bases: Bases) -> Result<Game, SizeFault>
+    requires bases { bases ≡ bases_of checked.now }
+    requires small { base_too_large checked.now ≡ None }
+    ensures game { IfOk result (λ game. game ≡ game_of checked.now) }
+    ensures small { OnOk result (past_limit Which.Instances (instance_total checked.now) ≡ None) }
+    ensures refused { IfErr result (IsInstanceFault checked.now) }
+{
+    let instances = count(checked, &bases);
+    if instances > MOST_INSTANCES {
+        return Err(SizeFault::TooLarge(Which::Instances, instances));
+    }
+    let vocabulary = vocabulary(alloc, checked)?;
+    let program = checked.program();
+    let rules = levels_rules(alloc, &vocabulary, program)?;
+    let quants = quants(alloc, program.levels.as_slice())?;
+    Ok(Game {
+        quants,
+        bases,
+        rules,
+    })
+}

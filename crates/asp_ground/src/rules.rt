@@ -1,0 +1,187 @@
+//! The instances of rules and of levels.
+ghost use Rattle.std.specs.Prelude.{◌≡◌, ◌++◌, map, get_or, replicate, [], IfOk, OnOk};
+ghost use Rattle.std.specs.List.{flat_map};
+ghost use Rattle.asp_ground.specs.Ranks.{IsOrdered};
+ghost use Rattle.asp_ground.specs.Variables.{found_disjunctive, found_element};
+ghost use Rattle.asp_ground.specs.Templates.{instances_over};
+ghost use Rattle.asp_ground.specs.Compiled.{schema_instances, disjunctive_instances, compiled_instances};
+
+use crate::compile::{atom_template, atom_templates, compile};
+use crate::facts::add_fact;
+use crate::instances::add_all;
+use crate::ranks::capped;
+use crate::template::Template;
+use crate::variables::{disjunctive_variables, element_variables};
+use asp_atoms::Vocabulary;
+use asp_defs::{Atom, Element, GroundRule, Head, List, Literal, NoMemory, Rule};
+use std::alloc::Global;
+
+/// The same slice as often as asked for.
+fn repeated(alloc: Global, slice: &[u32], count: usize) -> Result<Vec<&[u32]>, NoMemory>
+    ensures { IfOk result (λ slices. map (λ s. s.now) slices.items ≡ replicate count slice.now) }
+{
+    let mut slices = Vec::with_capacity(alloc, count)?;
+    for _place in 0..count {
+        slices.push(slice)?;
+    }
+    Ok(slices)
+}
+
+/// Adds the instances of a template all of whose variables run through the same ranks.
+fn add_over(
+    alloc: Global,
+    out: &mut List<GroundRule>,
+    size: u32,
+    template: &Template,
+    ranks: &[u32],
+    variables: usize,
+) -> Result<(), NoMemory>
+    ensures { OnOk result (out.new ≡ out.old ++ instances_over size template.now (replicate variables ranks.now)) }
+{
+    let domains = repeated(alloc, ranks, variables)?;
+    add_all(alloc, out, size, template, domains.as_slice())
+}
+
+/// Adds the instances of a disjunctive rule that isn't spread.
+fn add_disjunctive(
+    alloc: Global,
+    out: &mut List<GroundRule>,
+    vocabulary: &Vocabulary,
+    ranks: &[u32],
+    atoms: &[Atom],
+    body: &[Literal],
+) -> Result<(), NoMemory>
+    requires { IsOrdered vocabulary.now }
+    ensures { OnOk result (out.new ≡ out.old
+        ++ schema_instances vocabulary.now ranks.now (found_disjunctive atoms.now body.now)) }
+{
+    let found = disjunctive_variables(atoms, body);
+    let variables = found.as_slice();
+    let heads = atom_templates(alloc, vocabulary, variables, atoms)?;
+    let template = compile(alloc, vocabulary, variables, false, heads, body, &[])?;
+    add_over(
+        alloc,
+        out,
+        capped(vocabulary.constants.len()),
+        &template,
+        ranks,
+        variables.len(),
+    )
+}
+
+/// Adds the instances of an element of a choice.
+fn add_element(
+    alloc: Global,
+    out: &mut List<GroundRule>,
+    vocabulary: &Vocabulary,
+    ranks: &[u32],
+    element: &Element,
+    body: &[Literal],
+) -> Result<(), NoMemory>
+    requires { IsOrdered vocabulary.now }
+    ensures { OnOk result (out.new ≡ out.old
+        ++ schema_instances vocabulary.now ranks.now (found_element body.now element.now)) }
+{
+    let found = element_variables(body, element);
+    let variables = found.as_slice();
+    let mut heads = List::new(alloc);
+    heads.push(atom_template(alloc, vocabulary, variables, &element.atom)?)?;
+    let cond = element.cond.as_slice();
+    let template = compile(alloc, vocabulary, variables, true, heads, body, cond)?;
+    add_over(
+        alloc,
+        out,
+        capped(vocabulary.constants.len()),
+        &template,
+        ranks,
+        variables.len(),
+    )
+}
+
+/// Adds the instances of the elements of a choice, in their order.
+fn add_elements(
+    alloc: Global,
+    out: &mut List<GroundRule>,
+    vocabulary: &Vocabulary,
+    ranks: &[u32],
+    elements: &[Element],
+    body: &[Literal],
+) -> Result<(), NoMemory>
+    requires { IsOrdered vocabulary.now }
+    ensures { OnOk result (out.new ≡ out.old
+        ++ flat_map (λ e. schema_instances vocabulary.now ranks.now (found_element body.now e)) elements.now) }
+{
+    for element in elements {
+        add_element(alloc, out, vocabulary, ranks, element, body)?;
+    }
+    Ok(())
+}
+
+/// Adds the instances of a disjunctive rule.
+fn add_disjunction(
+    alloc: Global,
+    out: &mut List<GroundRule>,
+    vocabulary: &Vocabulary,
+    ranks: &[u32],
+    atoms: &[Atom],
+    body: &[Literal],
+) -> Result<(), NoMemory>
+    requires { IsOrdered vocabulary.now }
+    ensures { OnOk result (out.new ≡ out.old ++ disjunctive_instances vocabulary.now ranks.now atoms.now body.now) }
+{
+    if atoms.len() == 1 && body.len() == 0 {
+        add_fact(alloc, out, vocabulary, &atoms[0])
+    } else {
+        add_disjunctive(alloc, out, vocabulary, ranks, atoms, body)
+    }
+}
+
+/// Adds the instances of a rule.
+fn add_rule(
+    alloc: Global,
+    out: &mut List<GroundRule>,
+    vocabulary: &Vocabulary,
+    ranks: &[u32],
+    rule: &Rule,
+) -> Result<(), NoMemory>
+    requires { IsOrdered vocabulary.now }
+    ensures { OnOk result (out.new ≡ out.old ++ compiled_instances vocabulary.now ranks.now rule.now) }
+{
+    let body = rule.body.as_slice();
+    match &rule.head {
+        Head::Disj(atoms) => add_disjunction(alloc, out, vocabulary, ranks, atoms.as_slice(), body),
+        Head::Choice(elements) => {
+            add_elements(alloc, out, vocabulary, ranks, elements.as_slice(), body)
+        }
+    }
+}
+
+/// The ranks of the universe of a level, and none past the last level.
+fn universe_of(universes: &[List<u32>], level: usize) -> &[u32]
+    ensures { result.now ≡ get_or universes.now level [] }
+{
+    if level < universes.len() {
+        universes[level].as_slice()
+    } else {
+        &[]
+    }
+}
+
+/// The instances of the rules of a level.
+pub fn level_rules(
+    alloc: Global,
+    vocabulary: &Vocabulary,
+    level: usize,
+    rules: &[Rule],
+) -> Result<List<GroundRule>, NoMemory>
+    requires { IsOrdered vocabulary.now }
+    ensures { IfOk result (λ instances. instances
+        ≡ flat_map (compiled_instances vocabulary.now (get_or vocabulary.now.universes level [])) rules.now) }
+{
+    let ranks = universe_of(vocabulary.universes.as_slice(), level);
+    let mut out = List::new(alloc);
+    for rule in rules {
+        add_rule(alloc, &mut out, vocabulary, ranks, rule)?;
+    }
+    Ok(out)
+}

@@ -1,0 +1,142 @@
+//! The variables of a rule, each once, in the order of first occurrence. A checked rule has at most 16, so that they stand
+//! in an array.
+ghost use Rattle.std.specs.Prelude.{◌≡◌, ◌++◌, map};
+ghost use Rattle.std.specs.List.{flat_map, fold};
+ghost use Rattle.asp_defs.specs.Instances.{same_variable, term_variables, atom_variables, literal_variables};
+ghost use Rattle.asp_defs.specs.Safety.{is_variable_of};
+ghost use Rattle.asp_ground.specs.Variables.{term_of, with_variable, disjunctive_variables, element_variables};
+
+use arrayvec::ArrayVec;
+use asp_defs::{Atom, Element, Literal, Term};
+
+/// A variable of a rule. A name borrows its bytes.
+#[derive(Debug, Clone, Copy)]
+pub enum Variable<'a> {
+    Named(&'a [u8]),
+    Anon(u32),
+}
+
+impl Default for Variable<'_> {
+    fn default() -> Self {
+        Variable::Anon(0)
+    }
+}
+
+/// One more than the most variables.
+const ROOM: usize = 17;
+
+/// Variables, each once.
+pub type Variables<'a> = ArrayVec<Variable<'a>, ROOM>;
+
+/// Whether two variables are the same.
+pub fn is_same(left: Variable<'_>, right: Variable<'_>) -> bool
+    ensures { result ≡ same_variable (term_of left.entry) (term_of right.entry) }
+{
+    match left {
+        Variable::Named(name) => match right {
+            Variable::Named(other) => name == other,
+            Variable::Anon(_) => false,
+        },
+        Variable::Anon(number) => match right {
+            Variable::Named(_) => false,
+            Variable::Anon(other) => number == other,
+        },
+    }
+}
+
+/// Whether a variable is one of a list.
+fn is_among(variables: &[Variable<'_>], variable: Variable<'_>) -> bool
+    ensures { result ≡ is_variable_of (map term_of variables.now) (term_of variable.entry) }
+{
+    for other in variables {
+        if is_same(variable, *other) {
+            return true;
+        }
+    }
+    false
+}
+
+/// Adds a variable, unless it stands there already.
+fn add_variable<'a>(found: &mut Variables<'a>, variable: Variable<'a>)
+    ensures { map term_of found.new.items ≡ with_variable (map term_of found.old.items) (term_of variable.entry) }
+{
+    if !is_among(found.as_slice(), variable) && !found.is_full() {
+        found.push(variable);
+    }
+}
+
+/// Adds a term where it is a variable.
+fn add_term<'a>(found: &mut Variables<'a>, term: &'a Term)
+    ensures { map term_of found.new.items ≡ fold with_variable (map term_of found.old.items) (term_variables term.now) }
+{
+    match term {
+        Term::Var(name) => add_variable(found, Variable::Named(name.as_slice())),
+        Term::Anon(number) => add_variable(found, Variable::Anon(*number)),
+        Term::Int(_) => {}
+        Term::Sym(_) => {}
+        Term::Range(..) => {}
+    }
+}
+
+/// Adds the variables of an atom.
+fn add_atom<'a>(found: &mut Variables<'a>, atom: &'a Atom)
+    ensures { map term_of found.new.items ≡ fold with_variable (map term_of found.old.items) (atom_variables atom.now) }
+{
+    let args = atom.args.as_slice();
+    for term in args {
+        add_term(found, term);
+    }
+}
+
+/// Adds the variables of a literal.
+fn add_literal<'a>(found: &mut Variables<'a>, literal: &'a Literal)
+    ensures { map term_of found.new.items ≡ fold with_variable (map term_of found.old.items) (literal_variables literal.now) }
+{
+    match literal {
+        Literal::Pos(atom) => add_atom(found, atom),
+        Literal::Neg(atom) => add_atom(found, atom),
+        Literal::Cmp(left, _, right) => {
+            add_term(found, left);
+            add_term(found, right);
+        }
+    }
+}
+
+/// Adds the variables of atoms.
+fn add_atoms<'a>(found: &mut Variables<'a>, atoms: &'a [Atom])
+    ensures { map term_of found.new.items ≡ fold with_variable (map term_of found.old.items) (flat_map atom_variables atoms.now) }
+{
+    for atom in atoms {
+        add_atom(found, atom);
+    }
+}
+
+/// Adds the variables of literals.
+fn add_literals<'a>(found: &mut Variables<'a>, literals: &'a [Literal])
+    ensures { map term_of found.new.items ≡ fold with_variable (map term_of found.old.items) (flat_map literal_variables literals.now) }
+{
+    for literal in literals {
+        add_literal(found, literal);
+    }
+}
+
+/// The variables of a disjunctive rule: those of its head come first.
+pub fn disjunctive_variables<'a>(atoms: &'a [Atom], body: &'a [Literal]) -> Variables<'a>
+    ensures { map term_of result.items ≡ disjunctive_variables atoms.now body.now }
+{
+    let mut found = Variables::new();
+    add_atoms(&mut found, atoms);
+    add_literals(&mut found, body);
+    found
+}
+
+/// The variables of an element with a rule's body: those of its atom come first, then those of its condition.
+pub fn element_variables<'a>(body: &'a [Literal], element: &'a Element) -> Variables<'a>
+    ensures { map term_of result.items ≡ element_variables body.now element.now }
+{
+    let mut found = Variables::new();
+    add_atom(&mut found, &element.atom);
+    add_literals(&mut found, element.cond.as_slice());
+    add_literals(&mut found, body);
+    found
+}

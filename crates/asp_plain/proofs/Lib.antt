@@ -1,0 +1,16 @@
+pub mod Atoms
+pub mod Beside
+pub mod Bounds
+pub mod Checking
+pub mod Claims
+pub mod Coherence
+pub mod Fixing
+pub mod Gathering
+pub mod Listed
+pub mod Minimal
+pub mod Models
+pub mod Moves
+pub mod Parts
+pub mod Repeated
+pub mod Standing
+pub mod Trying

@@ -1,0 +1,4 @@
+pub mod Checked
+pub mod Levels
+pub mod Masks
+pub mod Sets
