@@ -8,11 +8,13 @@ use Rattle.asp_defs.specs.declared.ground.GroundRule.{GroundRule}
 use Rattle.asp_defs.specs.declared.ground.Game.{Game}
 use Rattle.asp_defs.specs.declared.syntax.Rule.{Rule}
 use Rattle.asp_defs.specs.declared.syntax.Program.{Program}
+use Rattle.asp_defs.specs.declared.faults.Which.TheVariants as which
 use Rattle.asp_defs.specs.Interpretations.{holds}
 use Rattle.asp_defs.specs.Constants.{atom_cmp, universe, level_rules}
 use Rattle.asp_defs.specs.Bases.{bases_of}
 use Rattle.asp_defs.specs.Instances.{rule_instances}
 use Rattle.asp_defs.specs.Lists.{is_empty}
+use Rattle.asp_defs.specs.Limits.{limit}
 
 -- the ground rules of a level: all instances of its rules over its universe
 abbrev pub level_ground : Program → (ℕ × List Rule) → List GroundRule
@@ -82,10 +84,10 @@ is_constraint r = not r.choice && is_empty r.head
 
 -- the most levels and atoms of a game
 abbrev pub most_levels : ℕ
-most_levels = 16
+most_levels = limit which.Levels
 
 abbrev pub most_atoms : ℕ
-most_atoms = 262144
+most_atoms = limit which.Atoms
 
 -- a game in which every level has rules over its base, the bases ascend from nothing to all atoms, and the constraint
 -- part has constraints alone

@@ -7,7 +7,6 @@ pub mod Tokens
 pub mod Grammar
 pub mod TextRefusals
 pub mod Constants
-pub mod PlainPrograms
 pub mod Bases
 pub mod Instances
 pub mod Games

@@ -93,8 +93,8 @@ pub enum Which {
     Instances,
 }
 
-/// The greatest count that a refusal shows.
-const MOST_SHOWN: u64 = 1_000_000_000_000_000_000;
+/// The greatest count that a refusal shows: greater ones are shown as it.
+pub const MOST_SHOWN: u64 = 1_000_000_000_000_000_000;
 
 impl Which {
     /// The greatest count that the limit allows.

@@ -14,7 +14,7 @@ pub mod laws_text;
 mod list;
 mod syntax;
 
-pub use faults::{Form, Give, Kind, SizeFault, TextFault, Unknown, Var, Which};
+pub use faults::{Form, Give, Kind, MOST_SHOWN, SizeFault, TextFault, Unknown, Var, Which};
 pub use ground::{Bases, Const, Game, GroundAtom, GroundRule, Lit};
 pub use list::{List, Name};
 pub use std::alloc::AllocError as NoMemory;
