@@ -1,11 +1,11 @@
 -- The bases of a program by its vocabulary.
-use Rattle.std.proofs.Common.{ℕ, zero, suc, ◌≡◌, ◌+◌, ◌^◌, ◌<◌, ◌≤◌, refl, sym, ◌∙◌, ap, subst, inl, inr, true, List, [], ◌∷◌, ◌++◌, map, length, arith}
+use Rattle.std.proofs.Common.{ℕ, zero, suc, ◌≡◌, ◌+◌, ◌^◌, ◌<◌, ◌≤◌, refl, sym, ◌∙◌, ap, subst, inl, inr, true, List, [], ◌∷◌, map, length, arith}
 use Rattle.std.specs.List.{flat_map, sum_by}
 use Rattle.asp_defs.specs.declared.ground.Const.{Const}
 use Rattle.asp_defs.specs.declared.syntax.Program.{Program}
 use Rattle.asp_defs.specs.Lists.{IsIn, numbers_from}
 use Rattle.asp_defs.specs.Constants.{const_cmp, level_rules, rules_to, rule_constants, universe}
-use Rattle.asp_defs.specs.Bases.{Predicate, predicate_cmp, rule_predicates, predicates, predicate_atoms, base_atoms, atom_number, last_level}
+use Rattle.asp_defs.specs.Bases.{Predicate, predicate_cmp, rule_predicates, predicates, base_atoms, atom_number, last_level}
 use Rattle.asp_defs.specs.Games.{atoms_ascend}
 use Rattle.asp_defs.specs.Sizes.{atom_total}
 use Rattle.std.proofs.lemmas.List.{length-map}
@@ -13,8 +13,8 @@ use Rattle.asp_defs.proofs.Lists.{map_at}
 use Rattle.asp_atoms.specs.declared.vocabularies.NumberedPredicate.{NumberedPredicate}
 use Rattle.asp_atoms.specs.Ascending.{Ascends}
 use Rattle.asp_atoms.specs.Tuples.{in_base}
-use Rattle.asp_atoms.specs.Vocabularies.{const_rank, unnumbered, numbered_from}
-use Rattle.asp_atoms.specs.Members.{level_numbers, levels_numbers, AreSmall, AreRanks}
+use Rattle.asp_atoms.specs.Vocabularies.{const_rank, numbered_from}
+use Rattle.asp_atoms.specs.Members.{levels_numbers, AreSmall, AreRanks}
 use Rattle.asp_atoms.proofs.Orders.{const_lawful, predicate_lawful}
 use Rattle.asp_atoms.proofs.Ascending.{ascends_distinct, in_distinct, distinct_from}
 use Rattle.asp_atoms.proofs.Positions.{place_below}

@@ -1,10 +1,8 @@
 -- A level's predicates are those of the last level that are written in it.
-use Rattle.std.proofs.Common.{ℕ, zero, suc, ◌≡◌, ◌+◌, ◌^◌, ◌<◌, ◌≤◌, refl, sym, ◌∙◌, ap, subst, inl, inr, Bool, true, false, cond, List, [], ◌∷◌, ◌++◌, map, length, get_or, arith, ltb, Some, None, is_some}
-use Rattle.std.specs.Prelude.{position}
-use Rattle.std.specs.List.{flat_map, filter, sum_by}
+use Rattle.std.proofs.Common.{ℕ, ◌≡◌, ◌+◌, ◌^◌, ◌<◌, refl, sym, ◌∙◌, ap, subst, inl, inr, Bool, true, false, cond, List, [], ◌∷◌, ◌++◌, map, length, get_or, ltb, Some, None, is_some}
+use Rattle.std.specs.List.{flat_map, filter}
 use Rattle.std.specs.Ordering.{is_eq}
 use Rattle.std.specs.declared.cmp.Ordering.{Ordering}
-use Rattle.std.specs.declared.cmp.Ordering.TheVariants.{Less, Equal, Greater}
 use Rattle.std.proofs.lemmas.Bool.{lt-ltb, ltb-true}
 use Rattle.std.proofs.lemmas.List.{map-append}
 use Rattle.std.proofs.lemmas.List.Sums.{passes_at_first}
@@ -12,14 +10,13 @@ use Rattle.asp_defs.specs.declared.ground.Const.{Const}
 use Rattle.asp_defs.specs.Lists.{IsIn}
 use Rattle.asp_defs.specs.Constants.{const_cmp}
 use Rattle.asp_defs.specs.Bases.{Predicate, predicate_cmp, predicate_atoms, atom_number}
-use Rattle.asp_defs.proofs.Lists.{true_or_false, filter_at, filter_from, map_at, map_from}
+use Rattle.asp_defs.proofs.Lists.{filter_at, filter_from, map_at, map_from}
 use Rattle.asp_atoms.specs.declared.vocabularies.NumberedPredicate.{NumberedPredicate}
 use Rattle.asp_atoms.specs.Ascending.{AllAbove, Ascends, place_in}
-use Rattle.asp_atoms.specs.Tuples.{numbers_of}
-use Rattle.asp_atoms.specs.Vocabularies.{const_rank, unnumbered, with_number, numbered_from}
+use Rattle.asp_atoms.specs.Vocabularies.{const_rank, unnumbered, numbered_from}
 use Rattle.asp_atoms.specs.Members.{is_predicate_of, predicate_numbers, level_numbers}
 use Rattle.asp_atoms.proofs.Orders.{predicate_lawful}
-use Rattle.asp_atoms.proofs.Ascending.{SameMembers, above_at, above_from, unique}
+use Rattle.asp_atoms.proofs.Ascending.{above_at, above_from, unique}
 use Rattle.asp_atoms.proofs.Positions.{place_below, get_in}
 use Rattle.asp_atoms.proofs.Settled.{is_equal}
 use Rattle.asp_atoms.proofs.Numbering.{predicate_is}
@@ -94,7 +91,7 @@ chosen_are ns qs ps all up rise wider =
 
 -- ---- the numbers of a level's atoms
 
-flat_map_agrees : {A B : Type 0} (f g : A → List B) (xs : List A) → ((x : A) → IsIn x xs → f x ≡ g x) → flat_map f xs ≡ flat_map g xs
+pub flat_map_agrees : {A B : Type 0} (f g : A → List B) (xs : List A) → ((x : A) → IsIn x xs → f x ≡ g x) → flat_map f xs ≡ flat_map g xs
 flat_map_agrees f g [] h = refl
 flat_map_agrees f g (x ∷ xs) h =
     ap (λ l. l ++ flat_map f xs) (h x (inl refl)) ∙ ap (λ l. g x ++ l) (flat_map_agrees f g xs (λ z i. h z (inr i)))

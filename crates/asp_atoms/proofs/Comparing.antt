@@ -1,16 +1,15 @@
 -- Lists that are compared from the left, and the test that atoms ascend.
-use Rattle.std.proofs.Common.{ℕ, zero, suc, ◌≡◌, ◌+◌, ◌<◌, ◌≤◌, refl, sym, ◌∙◌, ap, subst, inl, inr, Bool, true, false, List, [], ◌∷◌, length, get_or, drop, arith}
-use Rattle.std.specs.Prelude.{◌&&◌}
+use Rattle.std.proofs.Common.{ℕ, ◌≡◌, ◌+◌, ◌<◌, ◌≤◌, refl, sym, ◌∙◌, ap, true, List, [], ◌∷◌, length, get_or, drop, arith}
 use Rattle.std.specs.Ordering.{is_lt, ordering_then}
 use Rattle.std.specs.declared.cmp.Ordering.{Ordering}
 use Rattle.std.specs.declared.cmp.Ordering.TheVariants.{Less, Equal, Greater}
 use Rattle.std.specs.Cmp.Lexicographic.{slice_cmp}
-use Rattle.std.proofs.lemmas.List.{drop_more, drop_all, get_or_read}
+use Rattle.std.proofs.lemmas.List.{drop_more, drop_all}
 use Rattle.asp_defs.specs.declared.ground.GroundAtom.{GroundAtom}
 use Rattle.asp_defs.specs.Constants.{atom_cmp}
 use Rattle.asp_defs.specs.Games.{atoms_ascend}
 use Rattle.asp_defs.proofs.Lists.{both, and_true}
-use Rattle.asp_atoms.specs.Ascending.{AllAbove, Ascends}
+use Rattle.asp_atoms.specs.Ascending.{Ascends}
 use Rattle.asp_atoms.proofs.Orders.{atom_lawful}
 use Rattle.asp_atoms.proofs.Ascending.{above_at, above_from}
 

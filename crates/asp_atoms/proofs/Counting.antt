@@ -1,11 +1,11 @@
 -- Counts that end at the greatest one shown, and the limits that they pass.
-use Rattle.std.proofs.Common.{ℕ, zero, suc, ◌≡◌, ◌+◌, ◌*◌, ◌^◌, ◌<◌, ◌≤◌, min, max, refl, sym, ◌∙◌, ap, subst, inl, inr, Bool, true, false, cond, List, [], ◌∷◌, ◌++◌, map, length, length-append, arith, ltb, mul-le-mul_right, mul-le-mul_left, zero-mul, mul-zero, Option, Some, None, is_none, IsTrue}
+use Rattle.std.proofs.Common.{ℕ, ◌≡◌, ◌+◌, ◌<◌, ◌≤◌, min, max, refl, sym, ◌∙◌, ap, subst, inl, inr, Bool, true, false, cond, List, [], ◌∷◌, map, length, length-append, arith, Option, Some, None, is_none, IsTrue}
 use Rattle.std.specs.List.{flat_map, fold}
 use Rattle.std.specs.Option.{option_or, option_map}
 use Rattle.std.proofs.lemmas.Bool.{cases_lt, lt-ltb, le-ltb}
 use Rattle.std.proofs.lemmas.List.{take_all, length-map}
 use Rattle.asp_defs.specs.declared.faults.Which.{Which}
-use Rattle.asp_defs.specs.declared.faults.Which.TheVariants.{Constants, Atoms, Arguments, Levels}
+use Rattle.asp_defs.specs.declared.faults.Which.TheVariants.{Constants, Atoms, Arguments}
 use Rattle.asp_defs.specs.declared.syntax.Atom.{Atom}
 use Rattle.asp_defs.specs.declared.syntax.Rule.{Rule}
 use Rattle.asp_defs.specs.declared.syntax.Part.{Part}
@@ -14,41 +14,21 @@ use Rattle.asp_defs.specs.Lists.{IsIn}
 use Rattle.asp_defs.specs.Bases.{Predicate, predicates, rule_predicates, atom_predicate, last_level}
 use Rattle.asp_defs.specs.Constants.{level_rules, rules_to}
 use Rattle.asp_defs.specs.Safety.{all_rules}
-use Rattle.asp_defs.specs.Limits.{limit, most_shown, past_limit, greatest, rule_atoms, most_arguments, too_large_in}
+use Rattle.asp_defs.specs.Limits.{limit, most_shown, past_limit, rule_atoms, most_arguments, too_large_in}
 use Rattle.asp_defs.specs.Checks.{is_checked, check_refusal, safety_refusal, form_refusal, size_refusal}
 use Rattle.asp_defs.specs.Sizes.{constant_total, atom_total}
 use Rattle.asp_defs.proofs.Lists.{map_at, map_from}
 use Rattle.asp_defs.proofs.TextRefutations.{clash}
+use Rattle.asp_atoms.specs.Counts.{shown}
 use Rattle.asp_atoms.specs.Answers.{base_too_large}
 use Rattle.asp_atoms.proofs.Orders.{predicate_lawful}
 use Rattle.asp_atoms.proofs.Ascending.{in_distinct}
 use Rattle.asp_atoms.proofs.Writing.{rules_predicates_are}
 
--- ---- sums and products that end at a greatest number
+-- ---- sums that end at the greatest number shown
 
-pub min_add : (a b top most : ℕ) → top ≤ most → min (min (min a top + b) most) top ≡ min (a + b) top
-min_add a b top most h = omega arith
-
-pub min_both : (a b top most : ℕ) → top ≤ most → min (min (min a top + min b top) most) top ≡ min (a + b) top
-min_both a b top most h = omega arith
-
-pub min_mul : (a b top most : ℕ) → top ≤ most → min (min (min a top * b) most) top ≡ min (a * b) top
-min_mul a zero top most h =
-    let one = mul-zero (min a top) in
-    let two = mul-zero a in
-    omega (arith, one, two)
-min_mul a (suc b) top most h = elim (cases_lt top a) [
-  | inl over ↦
-      let cut : min a top ≡ top = omega arith in
-      let first : min a top * suc b ≡ top * suc b = ap (λ n. n * suc b) cut in
-      let grown : top * 1 ≤ top * suc b = mul-le-mul_left top (omega arith) in
-      let more : top * suc b ≤ a * suc b = mul-le-mul_right (suc b) (omega arith) in
-      omega (arith, first, grown, more)
-  | inr within ↦
-      let same : min a top ≡ a = omega arith in
-      let first : min a top * suc b ≡ a * suc b = ap (λ n. n * suc b) same in
-      omega (arith, first)
-]
+pub shown_add : (a b : ℕ) → shown (shown a + b) ≡ shown (a + b)
+shown_add a b = omega arith
 
 -- ---- limits
 

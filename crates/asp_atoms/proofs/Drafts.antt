@@ -1,12 +1,10 @@
 -- A program whose levels and constraint part have intervals in facts alone can be checked.
-use Rattle.std.proofs.Common.{ℕ, zero, suc, eqb, ◌≡◌, refl, sym, ◌∙◌, ap, Bool, true, false, not, List, [], ◌∷◌, ◌++◌, map, length, ◌<◌, arith}
-use Rattle.std.specs.Prelude.{◌&&◌}
+use Rattle.std.proofs.Common.{ℕ, zero, suc, eqb, ◌≡◌, refl, sym, Bool, true, false, not, List, [], ◌∷◌, ◌++◌, map, length, ◌<◌, arith}
 use Rattle.std.specs.List.{flat_map, list_all}
 use Rattle.asp_defs.specs.declared.syntax.Part.{Part}
 use Rattle.asp_defs.specs.declared.syntax.Rule.{Rule}
-use Rattle.asp_defs.specs.declared.syntax.Program.{Program}
 use Rattle.asp_defs.specs.Lists.{is_empty}
-use Rattle.asp_defs.proofs.Lists.{both, and_true, all_at, all_from, append_at}
+use Rattle.asp_defs.proofs.Lists.{both, and_true}
 use Rattle.asp_defs.proofs.TextRefutations.{clash}
 use Rattle.asp_check.specs.Condition.{has_intervals_in_facts, IsCheckable}
 

@@ -1,8 +1,7 @@
 -- The vocabulary of a program from the universes and predicates of its levels.
-use Rattle.std.proofs.Common.{ℕ, ◌≡◌, ◌+◌, ◌^◌, ◌<◌, ◌≤◌, min, refl, sym, ◌∙◌, ap, subst, inl, inr, Bool, true, false, cond, ltb, List, [], ◌∷◌, map, length, get_or, arith, Bor, Option, Some, None, is_none, is_some}
+use Rattle.std.proofs.Common.{ℕ, ◌≡◌, ◌+◌, ◌^◌, ◌<◌, ◌≤◌, min, sym, ◌∙◌, ap, inl, inr, Bool, false, cond, ltb, List, map, length, get_or, arith, Bor, Option, Some, None, is_none, is_some, Fits, w32, Vec, Global}
 use Rattle.std.specs.List.{sum_by, flat_map}
 use Rattle.std.proofs.lemmas.Bool.{cases_lt, lt-ltb, le-ltb}
-use Rattle.std.specs.Option.{option_or}
 use Rattle.std.proofs.lemmas.List.{length-map}
 use Rattle.asp_defs.specs.declared.faults.Which.{Which}
 use Rattle.asp_defs.specs.declared.faults.Which.TheVariants.{Constants as ConstantsLimit, Atoms}
@@ -11,24 +10,27 @@ use Rattle.asp_defs.specs.declared.faults.SizeFault.TheVariants as fault
 use Rattle.asp_defs.specs.declared.ground.Const.{Const}
 use Rattle.asp_defs.specs.declared.syntax.Rule.{Rule}
 use Rattle.asp_defs.specs.declared.syntax.Program.{Program}
-use Rattle.asp_defs.specs.Lists.{IsIn, numbers_from}
+use Rattle.asp_defs.specs.Lists.{numbers_from}
 use Rattle.asp_defs.specs.Constants.{universe, level_rules}
 use Rattle.asp_defs.specs.declared.ground.GroundAtom.{GroundAtom}
 use Rattle.asp_defs.specs.declared.ground.Bases.{Bases}
 use Rattle.asp_defs.specs.Bases.{Predicate, predicates, last_level, predicate_atoms, base_atoms, atom_number, bases_of}
-use Rattle.asp_defs.specs.Limits.{past_limit, most_shown, limit}
+use Rattle.asp_defs.specs.Limits.{past_limit, most_shown}
 use Rattle.asp_defs.specs.Sizes.{constant_total, atom_total}
 use Rattle.asp_atoms.specs.declared.constants.Constants.{Constants}
 use Rattle.asp_atoms.specs.declared.vocabularies.Vocabulary.{Vocabulary}
-use Rattle.asp_atoms.specs.Universes.{universe_to}
-use Rattle.asp_atoms.specs.Signatures.{predicates_to}
+use Rattle.asp_atoms.specs.declared.gathered.Gathered.{Gathered}
+use Rattle.asp_atoms.specs.declared.signatures.Signature.{Signature}
+use Rattle.asp_atoms.specs.Gathered.{IsGathered}
+use Rattle.asp_atoms.specs.Universes.{constants_of}
+use Rattle.asp_atoms.specs.Signatures.{predicates_of}
 use Rattle.asp_atoms.specs.declared.vocabularies.NumberedPredicate.{NumberedPredicate}
 use Rattle.asp_atoms.specs.Members.{levels_numbers}
 use Rattle.asp_atoms.specs.Vocabularies.{const_rank, unnumbered, numbered_from, vocabulary_from, vocabulary_of}
-use Rattle.asp_atoms.specs.Answers.{base_too_large, first_past, IsPast, IsBaseRefusal, IsFound}
-use Rattle.asp_atoms.proofs.Levels.{value_at}
+use Rattle.asp_atoms.specs.Answers.{base_too_large, first_past, IsPast, IsBaseRefusal}
+use Rattle.asp_atoms.proofs.Levels.{value_at, value_long}
 use Rattle.asp_atoms.proofs.Numbering.{map_map}
-use Rattle.asp_atoms.proofs.Counting.{levels_long, many_constants, many_atoms, few_of_both, within_limit, second_none}
+use Rattle.asp_atoms.proofs.Counting.{levels_long, many_constants, many_atoms, few_of_both, within_limit, first_none, second_none}
 use Rattle.asp_atoms.proofs.Choosing.{unnumbered_all}
 use Rattle.asp_defs.proofs.TextRefutations.{clash}
 use Rattle.asp_atoms.proofs.Assembling.{atoms_counted, program_ranks, program_predicates, members_are}
@@ -123,6 +125,45 @@ pub refusal : (p : Program) (size total : ℕ) → IsCounted p size total → (f
 refusal p size total counted (fault.TooLarge which count) h = refused_for p size total counted which count h
 refusal p size total counted fault.NoMemory h = absurd h
 
+-- the number of atoms, where no limit is passed
+pub exact : (p : Program) (size total : ℕ) → IsCounted p size total → first_past size total ≡ None → total ≡ atom_total p
+exact p size total counted e =
+    let within = no_limit size total e in
+    let some = within.1 in
+    let a = atoms_of_few p size total counted within.0 in
+    omega (arith, a, some)
+
+pub total_fits : (size total : ℕ) → first_past size total ≡ None → Fits w32 total
+total_fits size total e = let some = (no_limit size total e).1 in omega (arith, some)
+
+-- ---- what the vocabulary needs
+
+pub few_atoms : (p : Program) → base_too_large p ≡ None → atom_total p ≤ 262144
+few_atoms p e = within_limit Atoms (atom_total p) (second_none (past_limit ConstantsLimit (constant_total p)) (past_limit Atoms (atom_total p)) e)
+
+pub few_constants : (p : Program) → base_too_large p ≡ None → constant_total p ≤ 4096
+few_constants p e = within_limit ConstantsLimit (constant_total p) (first_none (past_limit ConstantsLimit (constant_total p)) (past_limit Atoms (atom_total p)) e)
+
+pub few_of_predicates : (p : Program) → base_too_large p ≡ None → sum_by (λ q. length (universe p (last_level p)) ^ q.arity) (predicates p (last_level p)) ≤ 262144
+few_of_predicates p e =
+    let few = few_atoms p e in
+    let all = atoms_counted p in
+    omega (arith, few, all)
+
+-- as many universes as levels with the constraint part and the empty one before them, and as many lists of predicates
+pub many_universes : (p : Program) (g : Gathered) → IsGathered p g → length g.universes.items ≡ last_level p + 1
+many_universes p g h = value_long constants_of (universe p) g.universes.items (last_level p + 1) h.constants
+
+pub many_signatures : (p : Program) (g : Gathered) → IsGathered p g → length g.signatures.items ≡ last_level p + 1
+many_signatures p g h = value_long (λ (s : Vec Signature Global). predicates_of s.items) (predicates p) g.signatures.items (last_level p + 1) h.signed
+
+-- the last of them
+pub last_constants : (p : Program) (g : Gathered) (n : ℕ) (x : Constants) → IsGathered p g → n ≡ last_level p → x ≡ get_or g.universes.items n x → constants_of x ≡ universe p (last_level p)
+last_constants p g n x h e is = last_of constants_of (universe p) p g.universes.items n x e h.constants is
+
+pub last_predicates : (p : Program) (g : Gathered) (n : ℕ) (x : Vec Signature Global) → IsGathered p g → n ≡ last_level p → x ≡ get_or g.signatures.items n x → predicates_of x.items ≡ predicates p (last_level p)
+last_predicates p g n x h e is = last_of (λ (s : Vec Signature Global). predicates_of s.items) (predicates p) p g.signatures.items n x e h.signed is
+
 -- ---- the vocabulary
 
 abbrev made : List Const → List (List ℕ) → List Predicate → Vocabulary
@@ -137,9 +178,6 @@ same_vocabulary p constants universes qs ce ue qe =
     (map_map (map (const_rank (universe p (last_level p)))) (universe p) (numbers_from 0 (last_level p + 1)))))
 
 -- ---- what the bases need
-
-pub few_atoms : (p : Program) → base_too_large p ≡ None → atom_total p ≤ 262144
-few_atoms p e = within_limit Atoms (atom_total p) (second_none (past_limit ConstantsLimit (constant_total p)) (past_limit Atoms (atom_total p)) e)
 
 pub as_long : {A B C X : Type 0} (f : A → B) (g : X → C) (u : A → C) (us : List B) (xs : List X) (ns : List A) → us ≡ map f ns → map g xs ≡ map u ns → length us ≡ length xs
 as_long f g u us xs ns e h =

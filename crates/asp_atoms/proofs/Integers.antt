@@ -1,24 +1,23 @@
 -- The integers of intervals: which they are, that they ascend, and intervals that are put apart.
-use Rattle.std.proofs.Common.{ℕ, zero, suc, ◌≡◌, ◌⊎◌, refl, sym, ◌∙◌, ap, subst, inl, inr, Bool, true, false, cond, List, [], ◌∷◌, ◌++◌, map, length, arith, ℤ, pos, negsuc, ◌+ℤ◌, ◌-ℤ◌, ◌≤ℤ◌, ◌<ℤ◌, int_lt, length-append, ◌+◌, ◌<◌, get_or}
+use Rattle.std.proofs.Common.{ℕ, zero, suc, ◌≡◌, refl, sym, ◌∙◌, ap, subst, inl, inr, Bool, true, false, cond, List, [], ◌∷◌, ◌++◌, length, arith, ℤ, pos, negsuc, ◌+ℤ◌, ◌-ℤ◌, ◌≤ℤ◌, ◌<ℤ◌, int_lt, ◌+◌, ◌<◌, get_or}
 use Rattle.std.specs.Prelude.{IsPermutation, IsSorted}
-use Rattle.std.specs.List.{flat_map}
 use Rattle.std.proofs.lemmas.List.Concat.{flat_map-append}
 use Rattle.std.proofs.lemmas.List.Sorted.{Contains-permutation, IsPermutation-sym}
 use Rattle.std.specs.Int.{int_max}
 use Rattle.std.specs.Ordering.{int_cmp, is_lt, ordering_then}
 use Rattle.std.specs.declared.cmp.Ordering.{Ordering}
-use Rattle.std.specs.declared.cmp.Ordering.TheVariants.{Less, Equal, Greater}
+use Rattle.std.specs.declared.cmp.Ordering.TheVariants.{Less}
 use Rattle.std.specs.Cmp.{int_cmp_is}
 use Rattle.std.proofs.lemmas.Int.{ints, clamps, by_lt_z}
 use Rattle.asp_defs.specs.Lists.{IsIn}
 use Rattle.asp_defs.specs.Constants.{integers_from, interval_length, interval, distinct}
-use Rattle.asp_defs.proofs.Lists.{append_at, append_left, append_right, true_or_false}
+use Rattle.asp_defs.proofs.Lists.{append_at, append_left, append_right}
 use Rattle.asp_atoms.specs.declared.intervals.Interval.{Interval}
 use Rattle.asp_atoms.specs.Universes.{between, integers, integers_of}
 use Rattle.asp_atoms.specs.Gaps.{apart_at, free_behind, apart_from, first_low}
-use Rattle.asp_atoms.specs.Ascending.{AllAbove, Ascends}
+use Rattle.asp_atoms.specs.Ascending.{Ascends}
 use Rattle.asp_atoms.proofs.Orders.{int_lawful}
-use Rattle.asp_atoms.proofs.Ascending.{SameMembers, above_from, ascends_append, distinct_is, flat_map_at, flat_map_in}
+use Rattle.asp_atoms.proofs.Ascending.{above_from, ascends_append, distinct_is, flat_map_at, flat_map_in}
 use Rattle.asp_atoms.proofs.Settled.{contains_in, in_contains}
 
 -- ---- integers from one on
@@ -152,7 +151,7 @@ lt_true x y h = grind (arith, ints)
 pub lt_false : (x y : ℤ) → y ≤ℤ x → int_lt x y ≡ false
 lt_false x y h = grind (arith, ints)
 
-abbrev piece : Bool → ℤ → ℤ → List Interval
+abbrev pub piece : Bool → ℤ → ℤ → List Interval
 piece b low high = cond b [] (between low high ∷ [])
 
 record Piece (free : ℤ) (x : Interval) (z : ℤ) : Type 0 where

@@ -1,5 +1,5 @@
 -- What levels have, from level to level.
-use Rattle.std.proofs.Common.{ℕ, zero, suc, ◌≡◌, ◌+◌, ◌<◌, ◌≤◌, ◌⊎◌, refl, sym, ◌∙◌, ap, subst, inl, inr, List, [], ◌∷◌, ◌++◌, map, length, get_or, take, append-nil, arith, Bor}
+use Rattle.std.proofs.Common.{ℕ, zero, suc, ◌≡◌, ◌+◌, ◌<◌, ◌≤◌, refl, sym, ◌∙◌, ap, subst, inl, inr, List, [], ◌∷◌, ◌++◌, map, length, get_or, take, append-nil, arith, Bor}
 use Rattle.std.specs.List.{flat_map}
 use Rattle.std.specs.declared.cmp.Ordering.{Ordering}
 use Rattle.std.proofs.lemmas.List.{take_more, get_or-map, length-map, map_push}
@@ -9,7 +9,7 @@ use Rattle.asp_defs.specs.Lists.{IsIn, numbers_from}
 use Rattle.asp_defs.specs.Constants.{distinct}
 use Rattle.asp_defs.proofs.Lists.{append_at, append_left, append_right}
 use Rattle.asp_atoms.proofs.Orders.{IsLawful}
-use Rattle.asp_atoms.proofs.Ascending.{SameMembers, same_distinct, in_distinct, distinct_from}
+use Rattle.asp_atoms.proofs.Ascending.{same_distinct, in_distinct, distinct_from}
 
 -- ---- numbers from one on
 
@@ -27,7 +27,7 @@ numbers_more first (suc count) =
     ∙ (ap (λ ns. first ∷ ns) (numbers_more (suc first) count)
     ∙ ap (λ n. first ∷ (numbers_from (suc first) count ++ n ∷ [])) e)
 
-get_number : (first count i d : ℕ) → i < count → get_or (numbers_from first count) i d ≡ first + i
+pub get_number : (first count i d : ℕ) → i < count → get_or (numbers_from first count) i d ≡ first + i
 get_number first zero i d h = absurd (omega arith)
 get_number first (suc count) zero d h = omega arith
 get_number first (suc count) (suc i) d h = let rest = get_number (suc first) count i d (omega arith) in omega (arith, rest)

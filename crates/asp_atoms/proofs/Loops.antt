@@ -1,12 +1,11 @@
 -- Steps of the code, over plain values.
-use Rattle.std.proofs.Common.{ℕ, zero, suc, ◌≡◌, ◌+◌, ◌*◌, ◌^◌, ◌<◌, ◌≤◌, min, refl, sym, ◌∙◌, ap, subst, inl, inr, Bool, true, false, cond, List, [], ◌∷◌, ◌++◌, map, length, get_or, take, drop, arith, length-append, append_assoc, append-nil, pow-suc, mul-zero, mul-le-mul_right, suc-mul, mul_comm, Fits, w32, Result, Ok, Err, Some, None, Option, is_ok, is_some, ℤ, pos, ◌+ℤ◌, ◌≤ℤ◌, ◌<ℤ◌, int_lt}
+use Rattle.std.proofs.Common.{ℕ, zero, suc, ◌≡◌, ◌+◌, ◌*◌, ◌^◌, ◌<◌, ◌≤◌, sym, ◌∙◌, ap, subst, inl, inr, Bool, false, cond, List, [], ◌∷◌, ◌++◌, map, length, get_or, take, drop, arith, length-append, append_assoc, append-nil, pow-suc, mul-zero, mul-le-mul_right, suc-mul, mul_comm, Fits, w32, Result, Ok, Err, Some, None, Option, is_ok, is_some, ℤ, pos, ◌+ℤ◌, ◌≤ℤ◌, ◌<ℤ◌, int_lt}
 use Rattle.std.specs.Prelude.{position, IfOk}
 use Rattle.std.specs.List.{flat_map, sum_by}
 use Rattle.std.specs.Int.{int_max}
 use Rattle.std.specs.Ordering.{is_eq}
 use Rattle.std.specs.declared.cmp.Ordering.{Ordering}
 use Rattle.std.proofs.lemmas.Bool.{lt-ltb, le-ltb}
-use Rattle.std.proofs.lemmas.Int.{ints}
 use Rattle.std.proofs.lemmas.List.Sums.{sum_by_more_le}
 use Rattle.std.proofs.lemmas.List.{take-map, take_more, drop_more, map-append, length-map, get_or-map}
 use Rattle.std.proofs.lemmas.List.Concat.{flat_map-append}
@@ -14,7 +13,6 @@ use Rattle.std.proofs.Math.Nat.{pow-zero, pow-le-pow_right}
 use Rattle.asp_defs.specs.declared.ground.Const.{Const}
 use Rattle.asp_defs.specs.declared.ground.Const.TheVariants as const
 use Rattle.asp_defs.specs.Constants.{integers_from, interval_length}
-use Rattle.asp_defs.specs.Limits.{most_shown}
 use Rattle.asp_atoms.specs.declared.intervals.Interval.{Interval}
 use Rattle.asp_atoms.specs.Ascending.{place_in}
 use Rattle.asp_atoms.specs.Universes.{between, integers, integers_of}
@@ -29,8 +27,9 @@ use Rattle.asp_atoms.specs.Signatures.{predicate_of, predicates_of}
 use Rattle.asp_defs.specs.Bases.{Predicate}
 use Rattle.asp_atoms.proofs.Ascending.{flat_map_at}
 use Rattle.asp_atoms.proofs.Positions.{Finds, get_in}
-use Rattle.asp_atoms.proofs.Integers.{integers_more, length_interval, lt_false, lt_true}
-use Rattle.asp_atoms.proofs.Counting.{min_add}
+use Rattle.asp_atoms.proofs.Integers.{piece, integers_more, length_interval, lt_false, lt_true}
+use Rattle.asp_atoms.specs.Counts.{shown}
+use Rattle.asp_atoms.proofs.Counting.{shown_add}
 
 -- ---- one item more
 
@@ -64,9 +63,6 @@ finds_some R ks a (Err i) h = sym (ap is_some (finds_none R ks a i h))
 
 -- ---- intervals
 
-abbrev piece : Bool → ℤ → ℤ → List Interval
-piece b low high = cond b [] (between low high ∷ [])
-
 pub taken : (out new : List Interval) (free : ℤ) (x : Interval) (low high : ℤ) → low ≡ int_max free x.low → high ≡ x.high → low ≤ℤ high → new ≡ out ++ between low high ∷ [] → new ≡ out ++ apart_at free x
 taken out new free x low high e f h is =
     is ∙ (ap (λ z. out ++ between z high ∷ []) e
@@ -90,13 +86,13 @@ apart_more all xs i x d free out new next h is whole added goes =
     here : drop i xs ≡ x ∷ drop (i + 1) xs
     here = drop_more xs i d h ∙ ap (λ y. y ∷ drop (i + 1) xs) (sym is)
 
-pub count_more : (xs : List Interval) (i : ℕ) (x d : Interval) → i < length xs → x ≡ get_or xs i d → (count next : ℕ) → count ≡ min (length (integers_of (take i xs))) most_shown → next ≡ min (min (count + interval_length x.low x.high) 18446744073709551615) most_shown → next ≡ min (length (integers_of (take (i + 1) xs))) most_shown
+pub count_more : (xs : List Interval) (i : ℕ) (x d : Interval) → i < length xs → x ≡ get_or xs i d → (count next : ℕ) → count ≡ shown (length (integers_of (take i xs))) → next ≡ shown (count + interval_length x.low x.high) → next ≡ shown (length (integers_of (take (i + 1) xs)))
 count_more xs i x d h is count next so_far goes =
     let long : length (integers_of (take (i + 1) xs)) ≡ length (integers_of (take i xs)) + interval_length x.low x.high =
     ap length (flat_more integers xs i x d h is)
     ∙ (length-append (integers_of (take i xs)) (integers x) ∙ ap (λ n. length (integers_of (take i xs)) + n) (length_interval x)) in
-    let cut = min_add (length (integers_of (take i xs))) (interval_length x.low x.high) most_shown 18446744073709551615 (omega arith) in
-    goes ∙ (ap (λ n. min (min (n + interval_length x.low x.high) 18446744073709551615) most_shown) so_far ∙ (cut ∙ ap (λ n. min n most_shown) (sym long)))
+    let cut = shown_add (length (integers_of (take i xs))) (interval_length x.low x.high) in
+    goes ∙ (ap (λ n. shown (n + interval_length x.low x.high)) so_far ∙ (cut ∙ ap shown (sym long)))
 
 pub listed_more : (old out new : List Const) (low : ℤ) (k : ℕ) (v : ℤ) → new ≡ out ++ const.Int v ∷ [] → out ≡ old ++ map const.Int (integers_from low k) → v ≡ low +ℤ pos k → new ≡ old ++ map const.Int (integers_from low (k + 1))
 listed_more old out new low k v is so_far e =

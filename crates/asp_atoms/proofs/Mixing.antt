@@ -1,5 +1,5 @@
 -- Constants as integers and symbols: what is distinct among them.
-use Rattle.std.proofs.Common.{ℕ, ◌≡◌, ◌⊎◌, refl, sym, ◌∙◌, ap, subst, inl, inr, List, [], ◌∷◌, ◌++◌, map, append-nil, ℤ, pos, ◌+ℤ◌, arith}
+use Rattle.std.proofs.Common.{ℕ, ◌≡◌, refl, sym, ◌∙◌, ap, subst, inl, inr, List, [], ◌∷◌, ◌++◌, map, append-nil, ℤ, arith}
 use Rattle.std.specs.List.{flat_map}
 use Rattle.std.specs.Ordering.{nat_cmp, int_cmp}
 use Rattle.std.specs.declared.cmp.Ordering.TheVariants.{Less}

@@ -1,6 +1,6 @@
 -- An atom's number is the number of its predicate's first atom and, behind it, the ranks of its arguments read in the base
 -- of the number of constants.
-use Rattle.std.proofs.Common.{ℕ, zero, suc, ◌≡◌, ◌+◌, ◌*◌, ◌^◌, ◌<◌, ◌≤◌, refl, sym, ◌∙◌, ap, subst, inl, inr, List, [], ◌∷◌, ◌++◌, map, length, get_or, take, replicate, arith, length-append, pow-suc, get_or-append-add, mul-le-mul_right, add_assoc, add-mul, mul_assoc, mul_comm, zero-mul, suc-mul}
+use Rattle.std.proofs.Common.{ℕ, zero, suc, ◌≡◌, ◌+◌, ◌*◌, ◌^◌, ◌<◌, ◌≤◌, refl, sym, ◌∙◌, ap, subst, inl, inr, List, [], ◌∷◌, ◌++◌, map, length, get_or, take, arith, length-append, pow-suc, get_or-append-add, mul-le-mul_right, add-mul, mul_assoc, mul_comm, zero-mul, suc-mul}
 use Rattle.std.specs.List.{flat_map, fold}
 use Rattle.std.proofs.Math.Nat.{pow-zero}
 use Rattle.std.proofs.lemmas.List.{length-map, get_or-map, get_or_append_left, length-take-le, map-append}
@@ -8,17 +8,17 @@ use Rattle.std.proofs.lemmas.List.Concat.{get_or-flat_map}
 use Rattle.asp_defs.specs.declared.ground.Const.{Const}
 use Rattle.asp_defs.specs.declared.ground.GroundAtom.{GroundAtom}
 use Rattle.asp_defs.specs.Lists.{IsIn}
-use Rattle.asp_defs.specs.Constants.{const_cmp, atom_cmp}
-use Rattle.asp_defs.specs.Bases.{Predicate, predicate_cmp, product, predicate_atoms, atom_number}
-use Rattle.asp_defs.proofs.Lists.{map_at, map_from}
+use Rattle.asp_defs.specs.Constants.{const_cmp}
+use Rattle.asp_defs.specs.Bases.{Predicate, predicate_cmp, predicate_atoms, atom_number}
+use Rattle.asp_defs.proofs.Lists.{map_at}
 use Rattle.asp_atoms.specs.declared.vocabularies.NumberedPredicate.{NumberedPredicate}
-use Rattle.asp_atoms.specs.Ascending.{Ascends, place_in}
+use Rattle.asp_atoms.specs.Ascending.{Ascends}
 use Rattle.asp_atoms.specs.Tuples.{in_base, shifted, numbers_of}
-use Rattle.asp_atoms.specs.Vocabularies.{const_rank, unnumbered, with_number, numbered_from}
+use Rattle.asp_atoms.specs.Vocabularies.{const_rank, unnumbered, numbered_from}
 use Rattle.asp_atoms.proofs.Orders.{const_lawful, atom_lawful}
 use Rattle.asp_atoms.proofs.Ascending.{flat_map_at}
 use Rattle.asp_atoms.proofs.Positions.{place_of, place_below, at_place}
-use Rattle.asp_atoms.proofs.Tupling.{before, tuples, applied, length_rows, length_tuples, length_predicate, tuple_long, tuple_wider, atoms_ascend}
+use Rattle.asp_atoms.proofs.Tupling.{before, tuples, applied, length_rows, length_tuples, length_predicate, tuple_wider, atoms_ascend}
 
 -- ---- ranks as digits
 

@@ -1,6 +1,6 @@
 -- The orders of constants, predicates and atoms are total, and what they don't tell apart is equal.
-use Rattle.std.proofs.Common.{ℕ, ◌≡◌, refl, sym, ◌∙◌, ap, subst, ℤ, List, [], ◌∷◌, length}
-use Rattle.std.specs.Ordering.{nat_cmp, int_cmp, ordering_then, ordering_reverse, on}
+use Rattle.std.proofs.Common.{ℕ, ◌≡◌, refl, sym, ◌∙◌, ap, List, [], ◌∷◌, length}
+use Rattle.std.specs.Ordering.{nat_cmp, int_cmp, ordering_then, ordering_reverse}
 use Rattle.std.specs.declared.cmp.Ordering.{Ordering}
 use Rattle.std.specs.declared.cmp.Ordering.TheVariants.{Less, Equal, Greater}
 use Rattle.std.specs.Cmp.{IsTotalOrder}
@@ -76,7 +76,7 @@ const_congr (const.Sym s) (const.Int y) z h = absurd (cc)
 const_congr (const.Sym s) (const.Sym t) (const.Int z) h = refl
 const_congr (const.Sym s) (const.Sym t) (const.Sym u) h = bytes_lawful.total.congr s t u h
 
-const_exact : (x y : Const) → const_cmp x y ≡ Equal → x ≡ y
+pub const_exact : (x y : Const) → const_cmp x y ≡ Equal → x ≡ y
 const_exact (const.Int x) (const.Int y) e = ap const.Int (int_lawful.exact x y e)
 const_exact (const.Int x) (const.Sym t) e = absurd (cc)
 const_exact (const.Sym s) (const.Int y) e = absurd (cc)
@@ -93,7 +93,7 @@ const_lawful = record {
 abbrev predicate : List ℕ → ℕ → Predicate
 predicate name arity = record { name = name; arity = arity }
 
-predicate_exact : (p q : Predicate) → predicate_cmp p q ≡ Equal → p ≡ q
+pub predicate_exact : (p q : Predicate) → predicate_cmp p q ≡ Equal → p ≡ q
 predicate_exact p q e =
     let names = bytes_lawful.exact p.name q.name (then_first (slice_cmp nat_cmp p.name q.name) (nat_cmp p.arity q.arity) e) in
     let arities = nat_lawful.exact p.arity q.arity (then_second (slice_cmp nat_cmp p.name q.name) (nat_cmp p.arity q.arity) e) in

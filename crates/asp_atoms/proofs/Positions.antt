@@ -1,9 +1,8 @@
 -- Where values stand in ascending lists, and what a binary search finds.
-use Rattle.std.proofs.Common.{ℕ, zero, suc, ◌≡◌, ◌⊎◌, ◌<◌, ◌≤◌, ◌+◌, refl, sym, ◌∙◌, ap, subst, inl, inr, List, [], ◌∷◌, length, get_or, map, true, false, arith, Result, Ok, Err}
+use Rattle.std.proofs.Common.{ℕ, zero, suc, ◌≡◌, ◌⊎◌, ◌<◌, ◌≤◌, ◌+◌, refl, sym, ◌∙◌, ap, subst, inl, inr, List, [], ◌∷◌, length, get_or, map, false, arith, Result, Ok, Err}
 use Rattle.std.specs.Prelude.{MatchResult}
-use Rattle.std.specs.List.{position_or_len}
-use Rattle.std.specs.List.Sorted.{IsSortedBy, IsNonDecreasingBy, IsBinarySearchResult, IsSearchInRange}
-use Rattle.std.specs.Ordering.{is_eq, is_lt, ordering_index}
+use Rattle.std.specs.List.Sorted.{IsSortedBy, IsBinarySearchResult, IsSearchInRange}
+use Rattle.std.specs.Ordering.{is_eq, is_lt}
 use Rattle.std.specs.declared.cmp.Ordering.{Ordering}
 use Rattle.std.specs.declared.cmp.Ordering.TheVariants.{Less, Equal, Greater}
 use Rattle.std.proofs.lemmas.Bool.{cases_lt}
@@ -12,7 +11,7 @@ use Rattle.std.proofs.lemmas.List.{get_or-map, length-map, map-id}
 use Rattle.std.proofs.lemmas.List.Sums.{position_or_len_is}
 use Rattle.std.proofs.lemmas.List.Sorted.{searchable_from_sorted}
 use Rattle.asp_defs.specs.Lists.{IsIn}
-use Rattle.asp_atoms.specs.Ascending.{AllAbove, Ascends, place_in}
+use Rattle.asp_atoms.specs.Ascending.{Ascends, place_in}
 use Rattle.asp_atoms.proofs.Orders.{IsLawful}
 use Rattle.asp_atoms.proofs.Ascending.{above_at, turned, turned_back}
 
@@ -78,7 +77,7 @@ module _ {A : Type 0} {R : A → A → Ordering} (law : IsLawful R) where
 
   -- ---- binary search
 
-  sorted : {X : Type 0} (key : X → A) (xs : List X) (up : Ascends R (map key xs)) → IsSortedBy (λ a b. is_lt (R (key a) (key b))) xs
+  pub sorted : {X : Type 0} (key : X → A) (xs : List X) (up : Ascends R (map key xs)) → IsSortedBy (λ a b. is_lt (R (key a) (key b))) xs
   sorted key xs up k d low high =
       let long = length-map xs key in
       let less : R (get_or (map key xs) k (key d)) (get_or (map key xs) (k + 1) (key d)) ≡ Less =

@@ -1,10 +1,10 @@
 -- What a sort and the removal of repeated neighbours leave are the distinct members.
-use Rattle.std.proofs.Common.{ℕ, zero, suc, ◌≡◌, ◌<◌, refl, sym, ◌∙◌, ap, subst, inl, inr, Bool, true, false, List, [], ◌∷◌, length, get_or, map, arith}
+use Rattle.std.proofs.Common.{◌≡◌, refl, sym, ◌∙◌, subst, Bool, true, List, [], ◌∷◌, map}
 use Rattle.std.specs.Prelude.{Contains, IsPermutation, IsSorted}
-use Rattle.std.specs.List.{dedup, AllByRecursion, Any}
+use Rattle.std.specs.List.{dedup, AllByRecursion}
 use Rattle.std.specs.List.Sorted.{IsStrictlySortedBy}
 use Rattle.std.specs.Ordering.{on, eq_by_cmp, is_eq}
-use Rattle.std.specs.Cmp.{IsTotalOrder, IsEquivalence}
+use Rattle.std.specs.Cmp.{IsEquivalence}
 use Rattle.std.specs.declared.cmp.Ordering.{Ordering}
 use Rattle.std.specs.declared.cmp.Ordering.TheVariants.{Less, Equal, Greater}
 use Rattle.std.proofs.lemmas.Cmp.{on_total, eq_by_cmp_equiv}
@@ -15,7 +15,7 @@ use Rattle.asp_defs.specs.Constants.{distinct}
 use Rattle.asp_defs.proofs.Lists.{map_at, map_from}
 use Rattle.asp_atoms.specs.Ascending.{AllAbove, Ascends}
 use Rattle.asp_atoms.proofs.Orders.{IsLawful}
-use Rattle.asp_atoms.proofs.Ascending.{SameMembers, distinct_is}
+use Rattle.asp_atoms.proofs.Ascending.{distinct_is}
 use Rattle.asp_atoms.proofs.Positions.{get_in, stands}
 
 -- ---- members and places

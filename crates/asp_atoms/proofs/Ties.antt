@@ -1,5 +1,5 @@
 -- Predicates are equal where their order doesn't tell them apart.
-use Rattle.std.proofs.Common.{ℕ, ◌≡◌, refl, ap, ◌∙◌, Bool, true, false, ◌&&◌}
+use Rattle.std.proofs.Common.{◌≡◌, refl, ap, ◌∙◌, Bool, ◌&&◌}
 use Rattle.std.specs.Prelude.{nat_eq}
 use Rattle.std.specs.Ordering.{nat_cmp, ordering_then, is_eq, on, eq_by_cmp}
 use Rattle.std.specs.declared.cmp.Ordering.{Ordering}

@@ -1,14 +1,13 @@
 -- Tuples of constants, and the atoms of predicates over them: how many there are, that they ascend, and where they stand.
-use Rattle.std.proofs.Common.{ℕ, zero, suc, ◌≡◌, ◌+◌, ◌*◌, ◌^◌, ◌<◌, ◌≤◌, refl, sym, ◌∙◌, ap, subst, inl, inr, List, [], ◌∷◌, ◌++◌, map, length, get_or, take, replicate, arith, length-append, pow-suc, suc-mul, zero-mul, get_or-append-add, mul_comm}
-use Rattle.std.specs.List.{flat_map, sum_by, fold}
+use Rattle.std.proofs.Common.{ℕ, zero, suc, ◌≡◌, ◌+◌, ◌*◌, ◌^◌, refl, sym, ◌∙◌, ap, subst, inl, inr, List, [], ◌∷◌, map, length, replicate, arith, length-append, pow-suc, suc-mul, zero-mul, mul_comm}
+use Rattle.std.specs.List.{flat_map, sum_by}
 use Rattle.std.specs.Ordering.{nat_cmp, ordering_then}
 use Rattle.std.specs.declared.cmp.Ordering.{Ordering}
 use Rattle.std.specs.declared.cmp.Ordering.TheVariants.{Less, Equal, Greater}
 use Rattle.std.specs.Cmp.Lexicographic.{slice_cmp}
 use Rattle.std.proofs.Math.Nat.{pow-zero}
 use Rattle.std.proofs.lemmas.Cmp.{tied_itself}
-use Rattle.std.proofs.lemmas.List.{length-map, get_or-map, get_or_append_left, length-take-le}
-use Rattle.std.proofs.lemmas.List.Concat.{get_or-flat_map}
+use Rattle.std.proofs.lemmas.List.{length-map}
 use Rattle.std.proofs.lemmas.List.Sums.{sum_by-cons}
 use Rattle.asp_defs.specs.declared.ground.Const.{Const}
 use Rattle.asp_defs.specs.declared.ground.GroundAtom.{GroundAtom}
@@ -16,8 +15,8 @@ use Rattle.asp_defs.specs.Lists.{IsIn}
 use Rattle.asp_defs.specs.Constants.{const_cmp, atom_cmp}
 use Rattle.asp_defs.specs.Bases.{Predicate, predicate_cmp, product, predicate_atoms}
 use Rattle.asp_defs.proofs.Lists.{map_at, map_from}
-use Rattle.asp_atoms.specs.Ascending.{AllAbove, Ascends}
-use Rattle.asp_atoms.proofs.Orders.{IsLawful, bytes_lawful, nat_lawful, const_lawful, lists_lawful, atom_lawful}
+use Rattle.asp_atoms.specs.Ascending.{Ascends}
+use Rattle.asp_atoms.proofs.Orders.{bytes_lawful, nat_lawful, const_lawful, lists_lawful, atom_lawful}
 use Rattle.asp_atoms.proofs.Ascending.{ascends_flat_map, ascends_map, flat_map_at, flat_map_in}
 
 -- a constant before each of some tuples

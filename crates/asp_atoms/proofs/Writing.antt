@@ -1,11 +1,8 @@
 -- The constants and predicates of rules, by the terms and atoms that are written in them.
-use Rattle.std.proofs.Common.{ℕ, ◌≡◌, ◌⊎◌, refl, sym, ◌∙◌, ap, subst, inl, inr, List, [], ◌∷◌, ◌++◌, map, append-nil, append_assoc}
+use Rattle.std.proofs.Common.{◌≡◌, refl, ◌∙◌, ap, List, [], ◌∷◌, ◌++◌, map, append-nil}
 use Rattle.std.specs.List.{flat_map}
 use Rattle.std.proofs.lemmas.List.{map-append}
 use Rattle.std.proofs.lemmas.List.Concat.{flat_map-append}
-use Rattle.asp_defs.specs.declared.ground.Const.{Const}
-use Rattle.asp_defs.specs.declared.syntax.Term.{Term}
-use Rattle.asp_defs.specs.declared.syntax.Atom.{Atom}
 use Rattle.asp_defs.specs.declared.syntax.Literal.{Literal}
 use Rattle.asp_defs.specs.declared.syntax.Literal.TheVariants.{Pos, Neg, Cmp}
 use Rattle.asp_defs.specs.declared.syntax.Element.{Element}
@@ -13,7 +10,7 @@ use Rattle.asp_defs.specs.declared.syntax.Head.{Head}
 use Rattle.asp_defs.specs.declared.syntax.Head.TheVariants.{Disj, Choice}
 use Rattle.asp_defs.specs.declared.syntax.Rule.{Rule}
 use Rattle.asp_defs.specs.Constants.{term_constants, atom_constants, literal_constants, element_constants, head_constants, rule_constants}
-use Rattle.asp_defs.specs.Bases.{Predicate, atom_predicate, literal_predicates, element_predicates, head_predicates, rule_predicates}
+use Rattle.asp_defs.specs.Bases.{atom_predicate, literal_predicates, element_predicates, head_predicates, rule_predicates}
 use Rattle.asp_defs.specs.Limits.{literal_atoms, element_atoms, head_atoms, rule_atoms}
 use Rattle.asp_atoms.specs.Written.{atom_terms, literal_terms, element_terms, head_terms, rule_terms}
 

@@ -38,4 +38,4 @@ pub record IsFound {A : Type 0} (p : Program) (asked found : A) : Type 0 where
 -- atoms of bases can be searched for: they ascend, and there are few
 pub record IsSearchable (bases : Bases) : Type 0 where
   pub ordered : IsTrue (atoms_ascend bases.atoms)
-  pub few : length bases.atoms ≤ 262144
+  pub few : length bases.atoms ≤ limit Atoms

@@ -1,4 +1,6 @@
 pub mod Ascending
+pub mod Keys
+pub mod Counts
 pub mod Written
 pub mod Universes
 pub mod Gaps
@@ -7,4 +9,5 @@ pub mod Tuples
 pub mod Vocabularies
 pub mod Members
 pub mod Answers
+pub mod Gathered
 pub mod Laws

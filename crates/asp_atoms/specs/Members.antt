@@ -2,7 +2,9 @@
 use Rattle.std.specs.Prelude.{ℕ, Bool, is_some, position, ◌+◌, ◌^◌, ◌≤◌, ◌<◌, List, [], ◌∷◌}
 use Rattle.std.specs.List.{flat_map, filter}
 use Rattle.std.specs.Ordering.{is_eq}
+use Rattle.asp_defs.specs.declared.faults.Which.TheVariants.{Atoms}
 use Rattle.asp_defs.specs.Lists.{IsIn}
+use Rattle.asp_defs.specs.Limits.{limit}
 use Rattle.asp_defs.specs.Bases.{Predicate, predicate_cmp}
 use Rattle.asp_atoms.specs.declared.vocabularies.NumberedPredicate.{NumberedPredicate}
 use Rattle.asp_atoms.specs.Vocabularies.{unnumbered}
@@ -29,7 +31,7 @@ levels_numbers base qs (ranks ∷ more) (ps ∷ pss) = level_numbers base qs ran
 
 -- the numbers of the atoms of predicates are those of few atoms
 abbrev pub AreSmall : ℕ → List NumberedPredicate → Type 0
-AreSmall base qs = (q : NumberedPredicate) → IsIn q qs → q.first + base ^ q.arity ≤ 262144
+AreSmall base qs = (q : NumberedPredicate) → IsIn q qs → q.first + base ^ q.arity ≤ limit Atoms
 
 -- ranks are those of so many constants
 abbrev pub AreRanks : ℕ → List ℕ → Type 0

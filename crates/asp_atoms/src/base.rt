@@ -3,11 +3,9 @@ ghost use Rattle.std.specs.Prelude.{IfOk, MatchResult};
 ghost use Rattle.asp_defs.specs.Bases.{bases_of};
 ghost use Rattle.asp_atoms.specs.Answers.{IsFound, IsBaseRefusal, IsSearchable};
 
-use crate::build::vocabulary;
+use crate::build::gather_vocabulary;
 use crate::members::members;
-use crate::signatures::signatures;
 use crate::tuples::atoms;
-use crate::written::level_rules;
 use asp_check::Checked;
 use asp_defs::{Bases, SizeFault};
 use std::alloc::Global;
@@ -23,14 +21,13 @@ pub fn bases(alloc: Global, checked: &Checked) -> Result<Bases, SizeFault>
     ensures answers { MatchResult result (IsFound checked.now (bases_of checked.now)) (IsBaseRefusal checked.now) }
     ensures searchable { IfOk result IsSearchable }
 {
-    let vocabulary = vocabulary(alloc, checked)?;
-    let levels = level_rules(alloc, checked.program())?;
-    let signatures = signatures(alloc, levels.as_slice())?;
+    let (gathered, vocabulary) = gather_vocabulary(alloc, checked)?;
     let constants = vocabulary.constants.as_slice();
     let predicates = vocabulary.predicates.as_slice();
     let atoms = atoms(alloc, constants, predicates)?;
     let base = constants.len() as u32;
     let universes = vocabulary.universes.as_slice();
-    let members = members(alloc, base, predicates, universes, signatures.as_slice())?;
+    let signatures = gathered.signatures.as_slice();
+    let members = members(alloc, base, predicates, universes, signatures)?;
     Ok(Bases { atoms, members })
 }

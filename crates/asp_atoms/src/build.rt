@@ -1,27 +1,29 @@
 //! The vocabulary of a program.
-ghost use Rattle.std.specs.Prelude.{◌≡◌, ◌^◌, ◌≤◌, map, length, None, IfOk, MatchResult};
+ghost use Rattle.std.specs.Prelude.{◌≡◌, ◌^◌, ◌≤◌, map, length, IfOk, MatchResult};
 ghost use Rattle.std.specs.List.{sum_by};
+ghost use Rattle.asp_defs.specs.declared.faults.Which.TheVariants as which;
 ghost use Rattle.asp_defs.specs.Bases.{Predicate};
 ghost use Rattle.asp_defs.specs.Lists.{IsIn};
+ghost use Rattle.asp_defs.specs.Limits.{limit};
 ghost use Rattle.asp_defs.specs.Constants.{const_cmp};
 ghost use Rattle.asp_atoms.specs.Ascending.{Ascends};
 ghost use Rattle.asp_atoms.specs.Universes.{constants_of};
 ghost use Rattle.asp_atoms.specs.Signatures.{predicates_of};
 ghost use Rattle.asp_atoms.specs.Vocabularies.{numbered_from, vocabulary_from, vocabulary_of};
-ghost use Rattle.asp_atoms.specs.Answers.{IsFound, IsBaseRefusal, first_past, IsPast};
+ghost use Rattle.asp_atoms.specs.Answers.{IsFound, IsBaseRefusal};
+ghost use Rattle.asp_atoms.specs.Gathered.{IsGathered};
 
-use crate::constants::{Constants, count, listed, ranked, universes};
-use crate::signatures::{Signature, signatures};
-use crate::sizes::{MOST_ATOMS, MOST_CONSTANTS, count_atoms};
+use crate::constants::{Constants, listed, ranked};
+use crate::gathered::{Gathered, gather};
+use crate::signatures::Signature;
 use crate::vocabularies::{NumberedPredicate, Vocabulary};
-use crate::written::level_rules;
 use asp_check::Checked;
-use asp_defs::{List, Name, NoMemory, SizeFault, Which};
+use asp_defs::{List, Name, NoMemory, SizeFault};
 use std::alloc::Global;
 
 /// How many atoms a predicate has, where there are few.
 fn atoms_of(size: u32, arity: usize) -> u32
-    requires { size ^ arity ≤ 262144 }
+    requires { size ^ arity ≤ limit which.Atoms }
     ensures { result ≡ size ^ arity }
 {
     let mut count = 1_u32;
@@ -37,8 +39,8 @@ fn numbered(
     size: u32,
     signatures: &[Signature],
 ) -> Result<List<NumberedPredicate>, NoMemory>
-    requires few { sum_by (λ q. size ^ q.arity) (predicates_of signatures.now) ≤ 262144 }
-    requires short { (q : Predicate) → IsIn q (predicates_of signatures.now) → q.arity ≤ 16 }
+    requires few { sum_by (λ q. size ^ q.arity) (predicates_of signatures.now) ≤ limit which.Atoms }
+    requires short { (q : Predicate) → IsIn q (predicates_of signatures.now) → q.arity ≤ limit which.Arguments }
     ensures { IfOk result (λ out. out ≡ numbered_from size 0 (predicates_of signatures.now)) }
 {
     let mut out = Vec::new(alloc);
@@ -52,31 +54,19 @@ fn numbered(
     Ok(List::from_vec(out))
 }
 
-/// Judges how many constants and atoms there are.
-fn judge(size: u64, total: u64) -> Result<(), SizeFault>
-    ensures { MatchResult result (λ _. first_past size total ≡ None) (IsPast size total) }
-{
-    if size > MOST_CONSTANTS {
-        return Err(SizeFault::TooLarge(Which::Constants, size));
-    }
-    if total > MOST_ATOMS {
-        return Err(SizeFault::TooLarge(Which::Atoms, total));
-    }
-    Ok(())
-}
-
 /// The vocabulary of the last of these universes and of its predicates.
-fn named(
+fn vocabulary_over(
     alloc: Global,
     universes: &[Constants],
     last: &Constants,
     signatures: &[Signature],
 ) -> Result<Vocabulary, NoMemory>
-    requires constants { length (constants_of last.now) ≤ 4096 }
+    requires constants { length (constants_of last.now) ≤ limit which.Constants }
     requires ordered { Ascends const_cmp (constants_of last.now) }
-    requires atoms { sum_by (λ q. length (constants_of last.now) ^ q.arity) (predicates_of signatures.now) ≤ 262144 }
-    requires short { (q : Predicate) → IsIn q (predicates_of signatures.now) → q.arity ≤ 16 }
-    ensures { IfOk result (λ v. v ≡ vocabulary_from (constants_of last.now) (map constants_of universes.now) (predicates_of signatures.now)) }
+    requires atoms { sum_by (λ q. length (constants_of last.now) ^ q.arity) (predicates_of signatures.now) ≤ limit which.Atoms }
+    requires short { (q : Predicate) → IsIn q (predicates_of signatures.now) → q.arity ≤ limit which.Arguments }
+    ensures { IfOk result (λ v. v
+        ≡ vocabulary_from (constants_of last.now) (map constants_of universes.now) (predicates_of signatures.now)) }
 {
     let constants = listed(alloc, last)?;
     let predicates = numbered(alloc, constants.len() as u32, signatures)?;
@@ -89,6 +79,28 @@ fn named(
     })
 }
 
+/// What is gathered of a program, and its vocabulary.
+///
+/// # Errors
+///
+/// `TooLarge` where the program passes a limit, and `NoMemory` where memory runs out, as `vocabulary` says.
+pub fn gather_vocabulary(
+    alloc: Global,
+    checked: &Checked,
+) -> Result<(Gathered<'_>, Vocabulary), SizeFault>
+    ensures { MatchResult result
+        (λ both. IsGathered checked.now both.0 × (both.1 ≡ vocabulary_of checked.now))
+        (IsBaseRefusal checked.now) }
+{
+    let gathered = gather(alloc, checked)?;
+    let last = gathered.universes.len() - 1;
+    let constants = &gathered.universes[last];
+    let predicates = gathered.signatures[last].as_slice();
+    let universes = gathered.universes.as_slice();
+    let vocabulary = vocabulary_over(alloc, universes, constants, predicates)?;
+    Ok((gathered, vocabulary))
+}
+
 /// The vocabulary of a program.
 ///
 /// # Errors
@@ -98,13 +110,6 @@ fn named(
 pub fn vocabulary(alloc: Global, checked: &Checked) -> Result<Vocabulary, SizeFault>
     ensures { MatchResult result (IsFound checked.now (vocabulary_of checked.now)) (IsBaseRefusal checked.now) }
 {
-    let levels = level_rules(alloc, checked.program())?;
-    let universes = universes(alloc, levels.as_slice())?;
-    let signatures = signatures(alloc, levels.as_slice())?;
-    let last = &universes[levels.len()];
-    let predicates = signatures[levels.len()].as_slice();
-    let size = count(last);
-    judge(size, count_atoms(size, predicates))?;
-    let vocabulary = named(alloc, universes.as_slice(), last, predicates)?;
+    let (_gathered, vocabulary) = gather_vocabulary(alloc, checked)?;
     Ok(vocabulary)
 }

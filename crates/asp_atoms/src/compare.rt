@@ -4,23 +4,15 @@ ghost use Rattle.std.specs.Ordering.{nat_cmp, ordering_then};
 ghost use Rattle.std.specs.Cmp.Lexicographic.{slice_cmp};
 ghost use Rattle.asp_defs.specs.Constants.{const_cmp, atom_cmp};
 
+use crate::keys::{compare_keys, key_of};
 use asp_defs::{Const, GroundAtom};
 use std::cmp::Ordering;
 
-/// Compares constants: integers come before symbols, integers by value and symbols by their bytes.
-pub fn compare(left: &Const, right: &Const) -> Ordering
+/// Compares constants.
+fn compare(left: &Const, right: &Const) -> Ordering
     ensures { result ≡ const_cmp left.now right.now }
 {
-    match left {
-        Const::Int(value) => match right {
-            Const::Int(other) => value.cmp(other),
-            Const::Sym(_) => Ordering::Less,
-        },
-        Const::Sym(name) => match right {
-            Const::Int(_) => Ordering::Greater,
-            Const::Sym(other) => name.as_slice().cmp(other.as_slice()),
-        },
-    }
+    compare_keys(key_of(left), key_of(right))
 }
 
 /// Compares lists of constants from the left.

@@ -3,16 +3,17 @@ ghost use Rattle.std.specs.Prelude.{◌≡◌, ◌≤◌, ◌+◌, ◌++◌, [],
 ghost use Rattle.std.specs.List.{flat_map};
 ghost use Rattle.std.specs.Ordering.{nat_cmp};
 ghost use Rattle.std.specs.Cmp.Lexicographic.{slice_cmp};
+ghost use Rattle.asp_defs.specs.declared.faults.Which.TheVariants as which;
 ghost use Rattle.asp_defs.specs.Lists.{numbers_from};
 ghost use Rattle.asp_defs.specs.Constants.{const_cmp, distinct, rule_constants};
-ghost use Rattle.asp_defs.specs.Limits.{most_shown};
+ghost use Rattle.asp_defs.specs.Limits.{limit, most_shown};
 ghost use Rattle.asp_atoms.specs.Ascending.{Ascends};
 ghost use Rattle.asp_atoms.specs.Universes.{term_symbols, constants_of, universe_to};
 ghost use Rattle.asp_atoms.specs.Vocabularies.{const_rank};
 
+use crate::counts::sum;
 use crate::intervals::{Interval, add_intervals, count_integers, intervals_with};
 use crate::search::rank;
-use crate::sizes::MOST_SHOWN;
 use crate::written::terms;
 use asp_defs::{Const, List, Name, NoMemory, Rule, Term};
 use std::alloc::Global;
@@ -48,7 +49,8 @@ fn symbols_with<'a>(
     before: &[&'a [u8]],
     terms: &[&'a Term],
 ) -> Result<Vec<&'a [u8]>, NoMemory>
-    ensures { IfOk result (λ out. map (λ s. s.now) out.items ≡ distinct (slice_cmp nat_cmp) (map (λ s. s.now) before.now ++ flat_map term_symbols (map (λ t. t.now) terms.now))) }
+    ensures { IfOk result (λ out. map (λ s. s.now) out.items
+        ≡ distinct (slice_cmp nat_cmp) (map (λ s. s.now) before.now ++ flat_map term_symbols (map (λ t. t.now) terms.now))) }
 {
     let mut symbols = Vec::from_slice(alloc, before)?;
     for term in terms {
@@ -65,7 +67,8 @@ fn constants_with<'a>(
     before: &Constants<'a>,
     rules: &'a [Rule],
 ) -> Result<Constants<'a>, NoMemory>
-    ensures { IfOk result (λ out. constants_of out ≡ distinct const_cmp (constants_of before.now ++ flat_map rule_constants rules.now)) }
+    ensures { IfOk result (λ out. constants_of out
+        ≡ distinct const_cmp (constants_of before.now ++ flat_map rule_constants rules.now)) }
 {
     let terms = terms(alloc, rules)?;
     let intervals = intervals_with(alloc, before.intervals.as_slice(), terms.as_slice())?;
@@ -74,7 +77,7 @@ fn constants_with<'a>(
 }
 
 /// No constants.
-fn none<'a>(alloc: Global) -> Constants<'a>
+fn no_constants<'a>(alloc: Global) -> Constants<'a>
     ensures intervals { result.intervals.items ≡ [] }
     ensures symbols { result.symbols.items ≡ [] }
 {
@@ -86,10 +89,11 @@ fn none<'a>(alloc: Global) -> Constants<'a>
 
 /// The universes of the levels: of none of them, of the first, and so on to that of all.
 pub fn universes<'a>(alloc: Global, levels: &[&'a [Rule]]) -> Result<Vec<Constants<'a>>, NoMemory>
-    ensures { IfOk result (λ out. map constants_of out.items ≡ map (universe_to (map (λ l. l.now) levels.now)) (numbers_from 0 (length levels.now + 1))) }
+    ensures { IfOk result (λ out. map constants_of out.items
+        ≡ map (universe_to (map (λ l. l.now) levels.now)) (numbers_from 0 (length levels.now + 1))) }
 {
     let mut universes = Vec::new(alloc);
-    universes.push(none(alloc))?;
+    universes.push(no_constants(alloc))?;
     for (at, rules) in levels.iter().enumerate() {
         let next = constants_with(alloc, &universes[at], rules)?;
         universes.push(next)?;
@@ -102,9 +106,7 @@ pub fn count(constants: &Constants) -> u64
     ensures { result ≡ min (length (constants_of constants.now)) most_shown }
 {
     let symbols = constants.symbols.len() as u64;
-    count_integers(constants.intervals.as_slice())
-        .saturating_add(symbols)
-        .min(MOST_SHOWN)
+    sum(count_integers(constants.intervals.as_slice()), symbols)
 }
 
 /// Adds symbols as constants.
@@ -131,7 +133,7 @@ pub fn listed(alloc: Global, constants: &Constants) -> Result<Vec<Const>, NoMemo
 /// The ranks of constants among others that ascend.
 fn ranks(alloc: Global, all: &[Const], constants: &Constants) -> Result<List<u32>, NoMemory>
     requires ordered { Ascends const_cmp all.now }
-    requires few { length all.now ≤ 4096 }
+    requires few { length all.now ≤ limit which.Constants }
     ensures { IfOk result (λ out. out ≡ map (const_rank all.now) (constants_of constants.now)) }
 {
     let members = listed(alloc, constants)?;
@@ -149,7 +151,7 @@ pub fn ranked(
     universes: &[Constants],
 ) -> Result<List<List<u32>>, NoMemory>
     requires ordered { Ascends const_cmp all.now }
-    requires few { length all.now ≤ 4096 }
+    requires few { length all.now ≤ limit which.Constants }
     ensures { IfOk result (λ out. out ≡ map (map (const_rank all.now)) (map constants_of universes.now)) }
 {
     let mut out = Vec::new(alloc);

@@ -1,5 +1,5 @@
 //! Integers as intervals.
-ghost use Rattle.std.specs.Prelude.{◌≡◌, ◌++◌, map, length, min, IfOk, OnOk};
+ghost use Rattle.std.specs.Prelude.{◌≡◌, ◌<◌, ◌++◌, ◌+ℤ◌, pos, map, length, min, IfOk, OnOk};
 ghost use Rattle.std.specs.List.{flat_map};
 ghost use Rattle.std.specs.Ordering.{int_cmp};
 ghost use Rattle.asp_defs.specs.Constants.{distinct, interval_length};
@@ -7,14 +7,16 @@ ghost use Rattle.asp_defs.specs.Limits.{most_shown};
 ghost use Rattle.asp_atoms.specs.Universes.{integers, integers_of, term_intervals};
 ghost use Rattle.asp_atoms.specs.Gaps.{apart_from, apart_at, free_behind, first_low};
 
-use crate::sizes::MOST_SHOWN;
+use crate::counts::sum;
 use asp_defs::{Const, NoMemory, Term};
 use std::alloc::Global;
 
 /// The integers from `low` to `high`: none where these are swapped.
 #[derive(Clone, Copy, Debug, PartialEq, Eq, PartialOrd, Ord)]
 pub struct Interval {
+    /// The least integer, where there is one.
     pub low: i32,
+    /// The greatest integer, where there is one.
     pub high: i32,
 }
 
@@ -79,7 +81,8 @@ pub fn intervals_with(
     before: &[Interval],
     terms: &[&Term],
 ) -> Result<Vec<Interval>, NoMemory>
-    ensures { IfOk result (λ out. integers_of out.items ≡ distinct int_cmp (integers_of (before.now ++ flat_map term_intervals (map (λ t. t.now) terms.now)))) }
+    ensures { IfOk result (λ out. integers_of out.items
+        ≡ distinct int_cmp (integers_of (before.now ++ flat_map term_intervals (map (λ t. t.now) terms.now)))) }
 {
     let mut intervals = Vec::from_slice(alloc, before)?;
     for term in terms {
@@ -89,15 +92,30 @@ pub fn intervals_with(
     apart(alloc, intervals.as_slice())
 }
 
+/// How many integers an interval has: none where its ends are swapped.
+pub fn interval_length(low: i32, high: i32) -> u64
+    ensures { result ≡ interval_length low high }
+{
+    if low <= high {
+        (i64::from(high) - i64::from(low) + 1) as u64
+    } else {
+        0
+    }
+}
+
+/// The integer so many steps behind the first one of an interval that has more integers than that.
+pub fn stepped(low: i32, high: i32, step: u64) -> i32
+    requires { step < interval_length low high }
+    ensures { result ≡ low +ℤ pos step }
+{
+    (i64::from(low) + step as i64) as i32
+}
+
 /// How many integers an interval has.
 fn integers_in(interval: Interval) -> u64
     ensures { result ≡ interval_length interval.low interval.high }
 {
-    if interval.low <= interval.high {
-        (i64::from(interval.high) - i64::from(interval.low) + 1) as u64
-    } else {
-        0
-    }
+    interval_length(interval.low, interval.high)
 }
 
 /// How many integers intervals have, at most 10^18.
@@ -106,7 +124,7 @@ pub fn count_integers(intervals: &[Interval]) -> u64
 {
     let mut count = 0_u64;
     for interval in intervals {
-        count = count.saturating_add(integers_in(*interval)).min(MOST_SHOWN);
+        count = sum(count, integers_in(*interval));
     }
     count
 }
@@ -116,7 +134,7 @@ fn add_integers(out: &mut Vec<Const>, interval: Interval) -> Result<(), NoMemory
     ensures { OnOk result (out.new.items ≡ out.old.items ++ map Const.Int (integers interval)) }
 {
     for step in 0..integers_in(interval) {
-        let value = (i64::from(interval.low) + step as i64) as i32;
+        let value = stepped(interval.low, interval.high, step);
         out.push(Const::Int(value))?;
     }
     Ok(())

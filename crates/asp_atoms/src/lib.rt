@@ -4,30 +4,35 @@
 //! the number of its predicate's first atom and, behind it, the ranks of its arguments read in the base of the number of
 //! constants, the first argument being the most significant.
 //!
-//! In reading order: `compare` (the orders), `written` (the rules of the levels and the terms in them), `intervals`
-//! (integers), `constants` (universes), `signatures` (predicates), `sizes` (how many atoms there are), `vocabularies`
-//! (what numbering needs), `build` (how it is gathered), `tuples` (the atoms), `members` (the numbers of a level's atoms), `base` (the bases),
-//! `search` (the number of an atom),
-//! `laws` (how numbers are read).
+//! In reading order: `counts` (sums and products that end at a greatest count), `keys` (constants that borrow their
+//! names), `compare` (the orders), `search` (where constants and atoms stand), `written` (the rules of the levels and the
+//! terms in them), `intervals` (integers), `constants` (universes), `signatures` (predicates), `gathered` (all that, and
+//! how many atoms there are), `vocabularies` (what numbering needs), `build` (how it is made), `tuples` (the atoms),
+//! `members` (the numbers of a level's atoms), `base` (the bases), `laws` (how numbers are read).
 #![tactic(auto)]
 
 mod base;
 mod build;
 mod compare;
 mod constants;
+pub mod counts;
+mod gathered;
 mod intervals;
+mod keys;
 pub mod laws;
 mod members;
 mod search;
 mod signatures;
-mod sizes;
 mod tuples;
 mod vocabularies;
 mod written;
 
 pub use base::bases;
 pub use build::vocabulary;
-pub use search::number;
+pub use gathered::atom_count;
+pub use intervals::{interval_length, stepped};
+pub use keys::{Key, compare_keys};
+pub use search::{number, place_of};
 pub use vocabularies::{NumberedPredicate, Vocabulary};
 
 #[cfg(test)]

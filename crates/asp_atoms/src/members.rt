@@ -1,6 +1,22 @@
 //! The numbers of the atoms of the levels' bases.
-ghost use Rattle.std.specs.Prelude.{ℕ, ◌≡◌, ◌<◌, ◌≤◌, ◌+◌, ◌*◌, ◌^◌, ◌++◌, List, map, length, IfOk, OnOk};
+ghost use Rattle.std.specs.Prelude.{
+  ℕ,
+  ◌≡◌,
+  ◌<◌,
+  ◌≤◌,
+  ◌+◌,
+  ◌*◌,
+  ◌^◌,
+  ◌++◌,
+  List,
+  map,
+  length,
+  IfOk,
+  OnOk,
+};
+ghost use Rattle.asp_defs.specs.declared.faults.Which.TheVariants as which;
 ghost use Rattle.asp_defs.specs.Lists.{IsIn};
+ghost use Rattle.asp_defs.specs.Limits.{limit};
 ghost use Rattle.asp_defs.specs.Bases.{Predicate, predicate_cmp};
 ghost use Rattle.asp_atoms.specs.Ascending.{Ascends};
 ghost use Rattle.asp_atoms.specs.Signatures.{predicates_of};
@@ -51,7 +67,7 @@ fn numbers(
     ranks: &[u32],
     arity: u32,
 ) -> Result<Vec<u32>, NoMemory>
-    requires small { first + base ^ arity ≤ 262144 }
+    requires small { first + base ^ arity ≤ limit which.Atoms }
     requires ranked { AreRanks base ranks.now }
     ensures { IfOk result (λ out. out.items ≡ numbers_of first base ranks.now arity) }
 {
@@ -112,7 +128,8 @@ pub fn members(
     requires ranked { (ranks : List ℕ) → IsIn ranks universes.now → AreRanks base ranks }
     requires ordered { (ps : List Predicate) → IsIn ps (map (λ s. predicates_of s.items) signatures.now) → Ascends predicate_cmp ps }
     requires together { length universes.now ≡ length signatures.now }
-    ensures { IfOk result (λ out. out ≡ levels_numbers base predicates.now universes.now (map (λ s. predicates_of s.items) signatures.now)) }
+    ensures { IfOk result (λ out. out
+        ≡ levels_numbers base predicates.now universes.now (map (λ s. predicates_of s.items) signatures.now)) }
 {
     let mut out = Vec::new(alloc);
     for (at, ranks) in universes.iter().enumerate() {

@@ -21,7 +21,9 @@ use std::alloc::Global;
 /// A predicate: a name with its arity. The name borrows its bytes.
 #[derive(Clone, Copy, Debug, PartialEq, Eq, PartialOrd, Ord)]
 pub struct Signature<'a> {
+    /// The bytes of its name.
     pub name: &'a [u8],
+    /// How many arguments it has.
     pub arity: usize,
 }
 
@@ -123,7 +125,8 @@ fn signatures_with<'a>(
     before: &[Signature<'a>],
     rules: &'a [Rule],
 ) -> Result<Vec<Signature<'a>>, NoMemory>
-    ensures { IfOk result (λ out. predicates_of out.items ≡ distinct predicate_cmp (predicates_of before.now ++ flat_map rule_predicates rules.now)) }
+    ensures { IfOk result (λ out. predicates_of out.items
+        ≡ distinct predicate_cmp (predicates_of before.now ++ flat_map rule_predicates rules.now)) }
 {
     let mut signatures = Vec::from_slice(alloc, before)?;
     add_rules(&mut signatures, rules)?;
@@ -137,7 +140,8 @@ pub fn signatures<'a>(
     alloc: Global,
     levels: &[&'a [Rule]],
 ) -> Result<Vec<Vec<Signature<'a>>>, NoMemory>
-    ensures { IfOk result (λ out. map (λ s. predicates_of s.items) out.items ≡ map (predicates_to (map (λ l. l.now) levels.now)) (numbers_from 0 (length levels.now + 1))) }
+    ensures { IfOk result (λ out. map (λ s. predicates_of s.items) out.items
+        ≡ map (predicates_to (map (λ l. l.now) levels.now)) (numbers_from 0 (length levels.now + 1))) }
 {
     let mut signatures = Vec::new(alloc);
     signatures.push(Vec::new(alloc))?;

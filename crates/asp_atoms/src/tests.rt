@@ -2,7 +2,7 @@ ghost use Rattle.std.specs.Prelude.{◌≡◌, true, IfOk};
 ghost use Rattle.std.specs.List.{list_all};
 ghost use Rattle.asp_check.specs.Condition.{has_intervals_in_facts};
 
-use crate::{bases, number, vocabulary};
+use crate::{atom_count, bases, number, vocabulary};
 use asp_check::{CheckFault, Checked, check};
 use asp_defs::{
     Atom, Bases, Const, GroundAtom, Head, List, Literal, Name, NoMemory, Part, Program, Quant,
@@ -29,24 +29,23 @@ fn term(alloc: Global, arg: &Arg) -> Result<Term, NoMemory> {
     }
 }
 
-fn atom(alloc: Global, name: &[u8], args: &[Arg]) -> Result<Atom, NoMemory> {
+fn terms(alloc: Global, args: &[Arg]) -> Result<List<Term>, NoMemory> {
     let mut terms = Vec::new(alloc);
     for arg in args {
         let term = term(alloc, arg)?;
         terms.push(term)?;
     }
-    Ok(Atom {
-        name: Name::from_slice(alloc, name)?,
-        args: List::from_vec(terms),
-    })
+    Ok(List::from_vec(terms))
 }
 
 /// The fact of an atom.
-fn fact(alloc: Global, atom: Atom) -> Result<Rule, NoMemory>
+fn fact(alloc: Global, name: &[u8], args: &[Arg]) -> Result<Rule, NoMemory>
     ensures { IfOk result (λ rule. has_intervals_in_facts rule ≡ true) }
 {
+    let name = Name::from_slice(alloc, name)?;
+    let args = terms(alloc, args)?;
     let mut atoms = Vec::new(alloc);
-    atoms.push(atom)?;
+    atoms.push(Atom { name, args })?;
     Ok(Rule {
         head: Head::Disj(List::from_vec(atoms)),
         body: List::new(alloc),
@@ -80,13 +79,6 @@ struct Draft {
 }
 
 impl Draft {
-    fn new(alloc: Global) -> Draft {
-        Draft {
-            levels: Vec::new(alloc),
-            rules: Vec::new(alloc),
-        }
-    }
-
     fn rule(&mut self, rule: Rule) -> Result<(), NoMemory>
         requires { has_intervals_in_facts rule ≡ true }
     {
@@ -102,11 +94,6 @@ impl Draft {
             rules: List::from_vec(rules),
         })?;
         Ok(())
-    }
-
-    fn fact(&mut self, alloc: Global, name: &[u8], args: &[Arg]) -> Result<(), NoMemory> {
-        let rule = fact(alloc, atom(alloc, name, args)?)?;
-        self.rule(rule)
     }
 
     /// The program, if it has a level and passes the checks.
@@ -125,6 +112,33 @@ impl Draft {
     }
 }
 
+/// A piece of a program.
+#[derive(Clone, Copy)]
+enum Piece<'a> {
+    /// A fact by its name and arguments.
+    Fact(&'a [u8], &'a [Arg<'a>]),
+    /// The constraint that the atom of that name with a symbol doesn't hold.
+    Not(&'a [u8], &'a [u8]),
+    /// The end of a level.
+    End,
+}
+
+/// The program of these pieces; what stands behind its last level is the constraint part.
+fn checked(alloc: Global, pieces: &[Piece]) -> Result<Checked, CheckFault> {
+    let mut draft = Draft {
+        levels: Vec::new(alloc),
+        rules: Vec::new(alloc),
+    };
+    for piece in pieces {
+        match piece {
+            Piece::Fact(name, args) => draft.rule(fact(alloc, name, args)?)?,
+            Piece::Not(name, symbol) => draft.rule(constraint(alloc, name, symbol)?)?,
+            Piece::End => draft.level(alloc)?,
+        }
+    }
+    draft.checked(alloc)
+}
+
 fn put_name(text: &mut String, name: &Name) -> Result<(), AllocError> {
     let bytes = name.as_slice();
     for byte in bytes {
@@ -133,19 +147,17 @@ fn put_name(text: &mut String, name: &Name) -> Result<(), AllocError> {
     Ok(())
 }
 
-fn put_constant(text: &mut String, constant: &Const) -> Result<(), AllocError> {
-    text.push(' ')?;
-    match constant {
-        Const::Int(value) => write!(text, "{value}"),
-        Const::Sym(name) => put_name(text, name),
-    }
-}
-
 fn put_atom(text: &mut String, atom: &GroundAtom) -> Result<(), AllocError> {
     put_name(text, &atom.name)?;
     let args = atom.args.as_slice();
     for constant in args {
-        put_constant(text, constant)?;
+        match constant {
+            Const::Int(value) => write!(text, " {value}")?,
+            Const::Sym(name) => {
+                text.push(' ')?;
+                put_name(text, name)?;
+            }
+        }
     }
     text.push(';')
 }
@@ -158,8 +170,10 @@ fn put_numbers(text: &mut String, numbers: &[u32]) -> Result<(), AllocError> {
     text.push(']')
 }
 
-/// The atoms in their order, and the numbers of each level's atoms.
-fn bases_text(alloc: Global, bases: &Bases) -> Result<String, AllocError> {
+/// The atoms of a program in their order, and the numbers of each level's atoms.
+fn bases_of(alloc: Global, pieces: &[Piece]) -> Result<String, Fail> {
+    let checked = checked(alloc, pieces)?;
+    let bases = bases(alloc, &checked)?;
     let mut text = String::new(alloc);
     let atoms = bases.atoms.as_slice();
     for atom in atoms {
@@ -172,111 +186,81 @@ fn bases_text(alloc: Global, bases: &Bases) -> Result<String, AllocError> {
     Ok(text)
 }
 
-/// The bases of the program of a draft.
-fn bases_of(alloc: Global, draft: Draft) -> Result<String, Fail> {
-    let checked = draft.checked(alloc)?;
-    let bases = bases(alloc, &checked)?;
-    Ok(bases_text(alloc, &bases)?)
-}
-
 #[test]
-fn a_later_level_brings_a_constant_that_the_earlier_base_lacks(
-    rt: HostRuntime,
-) -> Result<(), Fail> {
-    let alloc = rt.alloc();
-    let mut draft = Draft::new(alloc);
-    draft.fact(alloc, b"p", &[Arg::Int(1)])?;
-    draft.level(alloc)?;
-    draft.fact(alloc, b"q", &[Arg::Sym(b"a")])?;
-    draft.level(alloc)?;
-    let text = bases_of(alloc, draft)?;
-    assert_eq!(rt; text.as_str(), "p 1;p a;q 1;q a;[][0,][0,1,2,3,][0,1,2,3,]");
+fn gives_the_bases_of_each_level(rt: HostRuntime) -> Result<(), Fail> {
+    let rows: [(&[Piece], &str); 6] = [
+        // A later level brings a constant that the earlier base lacks.
+        (
+            &[
+                Piece::Fact(b"p", &[Arg::Int(1)]),
+                Piece::End,
+                Piece::Fact(b"q", &[Arg::Sym(b"a")]),
+                Piece::End,
+            ],
+            "p 1;p a;q 1;q a;[][0,][0,1,2,3,][0,1,2,3,]",
+        ),
+        // A name with two arities is two predicates.
+        (
+            &[
+                Piece::Fact(b"p", &[Arg::Int(2), Arg::Int(1)]),
+                Piece::End,
+                Piece::Fact(b"p", &[]),
+                Piece::End,
+            ],
+            "p;p 1 1;p 1 2;p 2 1;p 2 2;[][1,2,3,4,][0,1,2,3,4,][0,1,2,3,4,]",
+        ),
+        // Integers come first, and by value.
+        (
+            &[
+                Piece::Fact(b"s", &[Arg::Sym(b"b")]),
+                Piece::Fact(b"s", &[Arg::Int(10)]),
+                Piece::Fact(b"s", &[Arg::Int(-2)]),
+                Piece::Fact(b"s", &[Arg::Sym(b"aa")]),
+                Piece::End,
+            ],
+            "s -2;s 10;s aa;s b;[][0,1,2,3,][0,1,2,3,]",
+        ),
+        // A constant of the constraint part is in the last base alone.
+        (
+            &[
+                Piece::Fact(b"p", &[Arg::Sym(b"d")]),
+                Piece::End,
+                Piece::Not(b"p", b"c"),
+            ],
+            "p c;p d;[][1,][0,1,]",
+        ),
+        // Intervals overlap, and one with its ends swapped is empty.
+        (
+            &[
+                Piece::Fact(b"p", &[Arg::Range(2, 4)]),
+                Piece::Fact(b"p", &[Arg::Range(9, 7)]),
+                Piece::End,
+                Piece::Fact(b"p", &[Arg::Range(1, 3)]),
+                Piece::End,
+            ],
+            "p 1;p 2;p 3;p 4;[][1,2,3,][0,1,2,3,][0,1,2,3,]",
+        ),
+        // Over no constants there are atoms without arguments alone.
+        (
+            &[
+                Piece::Fact(b"q", &[Arg::Range(1, 0)]),
+                Piece::Fact(b"a", &[]),
+                Piece::End,
+            ],
+            "a;[][0,][0,]",
+        ),
+    ];
+    for (pieces, expected) in rows {
+        let text = bases_of(rt.alloc(), pieces)?;
+        assert_eq!(rt; text.as_str(), expected);
+    }
     Ok(())
 }
 
-#[test]
-fn a_name_with_two_arities_is_two_predicates(rt: HostRuntime) -> Result<(), Fail> {
-    let alloc = rt.alloc();
-    let mut draft = Draft::new(alloc);
-    draft.fact(alloc, b"p", &[Arg::Int(2), Arg::Int(1)])?;
-    draft.level(alloc)?;
-    draft.fact(alloc, b"p", &[])?;
-    draft.level(alloc)?;
-    let text = bases_of(alloc, draft)?;
-    assert_eq!(rt;
-        text.as_str(),
-        "p;p 1 1;p 1 2;p 2 1;p 2 2;[][1,2,3,4,][0,1,2,3,4,][0,1,2,3,4,]"
-    );
-    Ok(())
-}
-
-#[test]
-fn integers_come_first_and_by_value(rt: HostRuntime) -> Result<(), Fail> {
-    let alloc = rt.alloc();
-    let mut draft = Draft::new(alloc);
-    draft.fact(alloc, b"s", &[Arg::Sym(b"b")])?;
-    draft.fact(alloc, b"s", &[Arg::Int(10)])?;
-    draft.fact(alloc, b"s", &[Arg::Int(-2)])?;
-    draft.fact(alloc, b"s", &[Arg::Sym(b"aa")])?;
-    draft.level(alloc)?;
-    let text = bases_of(alloc, draft)?;
-    assert_eq!(rt; text.as_str(), "s -2;s 10;s aa;s b;[][0,1,2,3,][0,1,2,3,]");
-    Ok(())
-}
-
-#[test]
-fn a_constant_of_the_constraint_part_is_in_the_last_base_alone(
-    rt: HostRuntime,
-) -> Result<(), Fail> {
-    let alloc = rt.alloc();
-    let mut draft = Draft::new(alloc);
-    draft.fact(alloc, b"p", &[Arg::Sym(b"d")])?;
-    draft.level(alloc)?;
-    let rule = constraint(alloc, b"p", b"c")?;
-    draft.rule(rule)?;
-    let text = bases_of(alloc, draft)?;
-    assert_eq!(rt; text.as_str(), "p c;p d;[][1,][0,1,]");
-    Ok(())
-}
-
-#[test]
-fn intervals_overlap_and_swapped_ones_are_empty(rt: HostRuntime) -> Result<(), Fail> {
-    let alloc = rt.alloc();
-    let mut draft = Draft::new(alloc);
-    draft.fact(alloc, b"p", &[Arg::Range(2, 4)])?;
-    draft.fact(alloc, b"p", &[Arg::Range(9, 7)])?;
-    draft.level(alloc)?;
-    draft.fact(alloc, b"p", &[Arg::Range(1, 3)])?;
-    draft.level(alloc)?;
-    let text = bases_of(alloc, draft)?;
-    assert_eq!(rt;
-        text.as_str(),
-        "p 1;p 2;p 3;p 4;[][1,2,3,][0,1,2,3,][0,1,2,3,]"
-    );
-    Ok(())
-}
-
-#[test]
-fn an_empty_universe_leaves_atoms_without_arguments(rt: HostRuntime) -> Result<(), Fail> {
-    let alloc = rt.alloc();
-    let mut draft = Draft::new(alloc);
-    draft.fact(alloc, b"q", &[Arg::Range(1, 0)])?;
-    draft.fact(alloc, b"a", &[])?;
-    draft.level(alloc)?;
-    let text = bases_of(alloc, draft)?;
-    assert_eq!(rt; text.as_str(), "a;[][0,][0,]");
-    Ok(())
-}
-
-/// The refusal of the program with one level, which has the fact of a predicate over an interval and further integers; 0
-/// atoms and 0 constants where it has bases.
-fn refusal(alloc: Global, args: &[Arg]) -> Result<(Which, u64), Fail> {
-    let mut draft = Draft::new(alloc);
-    draft.fact(alloc, b"p", args)?;
-    draft.level(alloc)?;
-    let checked = draft.checked(alloc)?;
-    match vocabulary(alloc, &checked) {
-        Ok(_) => Ok((Which::Bytes, 0)),
+/// What is said of a number of atoms: the number as bytes, or the limit that is passed with its count.
+fn told(answer: Result<u32, SizeFault>) -> Result<(Which, u64), Fail> {
+    match answer {
+        Ok(count) => Ok((Which::Bytes, u64::from(count))),
         Err(SizeFault::TooLarge(which, count)) => Ok((which, count)),
         Err(SizeFault::NoMemory) => Err(Fail::from(AllocError)),
     }
@@ -288,11 +272,13 @@ fn the_limits_are_kept_and_passed(rt: HostRuntime) -> Result<(), Fail> {
     let all = Arg::Range(i32::MIN, i32::MAX);
     let some = Arg::Range(1, 512);
     let more = Arg::Range(0, 512);
-    let rows: [(&[Arg], Which, u64); 7] = [
-        (&[Arg::Range(0, 4095)], Which::Bytes, 0),
+    let rows: [(&[Arg], Which, u64); 9] = [
+        (&[], Which::Bytes, 1),
+        (&[Arg::Range(1, 0)], Which::Bytes, 0),
+        (&[Arg::Range(0, 4095)], Which::Bytes, 4096),
         (&[Arg::Range(0, 4096)], Which::Constants, 4097),
         (&[all, all], Which::Constants, 4_294_967_296),
-        (&[some, some], Which::Bytes, 0),
+        (&[some, some], Which::Bytes, 262_144),
         (&[more, more], Which::Atoms, 263_169),
         (&[some, some, some], Which::Atoms, 134_217_728),
         (
@@ -302,20 +288,39 @@ fn the_limits_are_kept_and_passed(rt: HostRuntime) -> Result<(), Fail> {
         ),
     ];
     for (args, which, count) in rows {
-        let found = refusal(alloc, args)?;
-        assert!(rt; found.0 == which);
-        assert_eq!(rt; found.1, count);
+        let checked = checked(alloc, &[Piece::Fact(b"p", args), Piece::End])?;
+        let counted = told(atom_count(alloc, &checked))?;
+        assert!(rt; counted.0 == which);
+        assert_eq!(rt; counted.1, count);
+        let judged = told(vocabulary(alloc, &checked).map(|_| 0))?;
+        assert!(rt; judged.0 == which);
+        assert!(rt; judged.1 == count || which == Which::Bytes);
     }
+    Ok(())
+}
+
+#[test]
+fn atoms_of_all_levels_are_counted(rt: HostRuntime) -> Result<(), Fail> {
+    let checked = checked(
+        rt.alloc(),
+        &[
+            Piece::Fact(b"p", &[Arg::Int(2), Arg::Int(1)]),
+            Piece::End,
+            Piece::Fact(b"p", &[]),
+            Piece::End,
+            Piece::Not(b"q", b"c"),
+        ],
+    )?;
+    // Over 1, 2 and c: one of p, nine of p with two arguments, three of q.
+    assert_eq!(rt; atom_count(rt.alloc(), &checked)?, 13);
     Ok(())
 }
 
 #[test]
 fn an_atom_is_found_where_it_stands(rt: HostRuntime) -> Result<(), Fail> {
     let alloc = rt.alloc();
-    let mut draft = Draft::new(alloc);
-    draft.fact(alloc, b"p", &[Arg::Range(1, 512), Arg::Range(1, 512)])?;
-    draft.level(alloc)?;
-    let checked = draft.checked(alloc)?;
+    let sides = [Arg::Range(1, 512), Arg::Range(1, 512)];
+    let checked = checked(alloc, &[Piece::Fact(b"p", &sides), Piece::End])?;
     let bases = bases(alloc, &checked)?;
     assert_eq!(rt; bases.atoms.len(), 262_144);
     let atoms = bases.atoms.as_slice();
@@ -333,13 +338,16 @@ fn an_atom_is_found_where_it_stands(rt: HostRuntime) -> Result<(), Fail> {
 #[test]
 fn a_vocabulary_has_first_numbers_and_ranks(rt: HostRuntime) -> Result<(), Fail> {
     let alloc = rt.alloc();
-    let mut draft = Draft::new(alloc);
-    draft.fact(alloc, b"q", &[Arg::Sym(b"b"), Arg::Int(7)])?;
-    draft.level(alloc)?;
-    draft.fact(alloc, b"a", &[Arg::Sym(b"a")])?;
-    draft.fact(alloc, b"z", &[])?;
-    draft.level(alloc)?;
-    let checked = draft.checked(alloc)?;
+    let checked = checked(
+        alloc,
+        &[
+            Piece::Fact(b"q", &[Arg::Sym(b"b"), Arg::Int(7)]),
+            Piece::End,
+            Piece::Fact(b"a", &[Arg::Sym(b"a")]),
+            Piece::Fact(b"z", &[]),
+            Piece::End,
+        ],
+    )?;
     let vocabulary = vocabulary(alloc, &checked)?;
     let mut text = String::new(alloc);
     let universes = vocabulary.universes.as_slice();

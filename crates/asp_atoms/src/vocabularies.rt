@@ -4,7 +4,9 @@ use asp_defs::{Const, List, Name};
 /// A predicate with the number of its first atom.
 #[derive(Debug, Drop)]
 pub struct NumberedPredicate {
+    /// Its name.
     pub name: Name,
+    /// How many arguments it has.
     pub arity: u32,
     /// How many atoms the predicates before it have.
     pub first: u32,

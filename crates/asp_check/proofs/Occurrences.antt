@@ -12,10 +12,10 @@ use Rattle.asp_check.proofs.Members.{equal, same_truth}
 abbrev longer : Bool → List Term → Term → List Term
 longer b vs v = if b then vs else vs ++ v ∷ []
 
-abbrev others : Term → List Term → List Term
+abbrev pub others : Term → List Term → List Term
 others x ws = filter (λ w. not (same_variable x w)) ws
 
-same_back : (v w : Term) → same_variable v w ≡ true → same_variable w v ≡ true
+pub same_back : (v w : Term) → same_variable v w ≡ true → same_variable w v ≡ true
 same_back v w h =
     let e = equal v w h in
     subst (λ z. same_variable z v ≡ true) e (subst (λ z. same_variable v z ≡ true) (sym e) h)

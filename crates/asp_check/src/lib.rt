@@ -18,6 +18,7 @@ mod safety;
 mod variables;
 
 pub use checks::{CheckFault, Checked, check};
+pub use variables::{Variable, variable_of};
 
 #[cfg(test)]
 mod tests;

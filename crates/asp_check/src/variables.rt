@@ -18,6 +18,12 @@ pub enum Variable<'a> {
     Anon(u32),
 }
 
+impl Default for Variable<'_> {
+    fn default() -> Self {
+        Variable::Anon(0)
+    }
+}
+
 /// The variable that a term is, if it is one.
 pub fn variable_of(term: &Term) -> Option<Variable<'_>>
     ensures { option_to_list (option_map term_of result) ≡ term_variables term.now }

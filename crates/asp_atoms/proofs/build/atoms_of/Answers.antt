@@ -1,4 +1,4 @@
-use Rattle.std.proofs.Common.{◌≡◌, ◌*◌, ap, arith, ℕ}
+use Rattle.std.proofs.Common.{◌*◌, ap, arith, ℕ}
 use Rattle.asp_atoms.proofs.Loops.{pow_fits}
 use Rattle.asp_atoms.proofs.build.atoms_of.Goals as goal
 

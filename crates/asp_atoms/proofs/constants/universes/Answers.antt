@@ -1,4 +1,4 @@
-use Rattle.std.proofs.Common.{◌≡◌, ◌∙◌, ◌+◌, ◌++◌, List, ap, map, length, arith, Bor}
+use Rattle.std.proofs.Common.{◌+◌, List, map, arith, Bor}
 use Rattle.asp_defs.specs.declared.syntax.Rule.{Rule}
 use Rattle.asp_defs.specs.Constants.{rule_constants}
 use Rattle.asp_atoms.specs.Universes.{constants_of, universe_to}

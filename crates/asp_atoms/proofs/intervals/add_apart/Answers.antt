@@ -1,4 +1,4 @@
-use Rattle.std.proofs.Common.{◌≡◌, ◌∙◌, ap, arith, Vec, Global}
+use Rattle.std.proofs.Common.{◌∙◌, ap, arith, Vec, Global}
 use Rattle.std.proofs.lemmas.Int.{ints, clamps}
 use Rattle.asp_atoms.specs.declared.intervals.Interval.{Interval}
 use Rattle.asp_atoms.proofs.Loops.{taken, skipped}

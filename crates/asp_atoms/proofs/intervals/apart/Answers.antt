@@ -1,4 +1,4 @@
-use Rattle.std.proofs.Common.{◌≡◌, ◌∙◌, refl, pos, get_or, arith, rules, SFits, w64, to_z, of_z, to_z-of_z}
+use Rattle.std.proofs.Common.{◌∙◌, refl, pos, get_or, arith, rules, SFits, w64, to_z, of_z, to_z-of_z}
 use Rattle.asp_atoms.specs.Gaps.{apart_from, first_low}
 use Rattle.asp_atoms.specs.Universes.{between}
 use Rattle.asp_atoms.proofs.Loops.{apart_more}

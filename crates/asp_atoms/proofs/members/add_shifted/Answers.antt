@@ -1,4 +1,4 @@
-use Rattle.std.proofs.Common.{◌≡◌, ◌<◌, ◌+◌, ◌^◌, get_or, arith}
+use Rattle.std.proofs.Common.{◌<◌, ◌+◌, ◌^◌, get_or, arith}
 use Rattle.asp_atoms.proofs.Positions.{get_in}
 use Rattle.asp_atoms.proofs.members.add_shifted.Goals as goal
 

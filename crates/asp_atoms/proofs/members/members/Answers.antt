@@ -1,6 +1,6 @@
 use Rattle.std.proofs.Common.{◌≡◌, ◌∙◌, sym, ap, subst, List, ℕ, map, get_or, Vec, Global, arith}
 use Rattle.std.proofs.lemmas.List.{length-map, get_or-map}
-use Rattle.asp_defs.specs.Bases.{Predicate, predicate_cmp}
+use Rattle.asp_defs.specs.Bases.{predicate_cmp}
 use Rattle.asp_defs.proofs.Lists.{map_from}
 use Rattle.asp_atoms.specs.declared.signatures.Signature.{Signature}
 use Rattle.asp_atoms.specs.Ascending.{Ascends}

@@ -1,4 +1,4 @@
-use Rattle.std.proofs.Common.{◌≡◌, ◌∙◌, sym, ap, subst, Ok, Err, rules, List}
+use Rattle.std.proofs.Common.{◌≡◌, sym, subst, Ok, Err, rules, List}
 use Rattle.std.proofs.lemmas.Fn.{always_returns_same}
 use Rattle.asp_defs.specs.declared.ground.GroundAtom.{GroundAtom}
 use Rattle.asp_defs.specs.Constants.{atom_cmp}

@@ -1,18 +1,18 @@
-use Rattle.std.proofs.Common.{◌≡◌, sym, refl, Ok, Err, rules}
-use Rattle.std.proofs.lemmas.Fn.{always_returns_same}
+use Rattle.std.proofs.Common.{◌∙◌, ap, not, arith}
+use Rattle.std.specs.Ordering.{is_eq}
+use Rattle.std.proofs.lemmas.List.Sums.{prefix_len-le-length}
+use Rattle.asp_defs.specs.declared.ground.Const.{Const}
 use Rattle.asp_defs.specs.Constants.{const_cmp}
-use Rattle.asp_atoms.proofs.Orders.{const_lawful}
-use Rattle.asp_atoms.proofs.Positions.{found}
+use Rattle.asp_atoms.specs.Keys.{const_of}
+use Rattle.asp_atoms.specs.Vocabularies.{const_rank}
 use Rattle.asp_atoms.proofs.search.rank.Goals as goal
 
-pub returns-in-Ok : goal.returns-in-Ok
-returns-in-Ok c =
-    sym ((found const_lawful c.args.constants.now c.requires.ordered c.args.constant.now (Ok c.in-Ok.at) c.in-Ok.ensures.bound
-    (c.in-Ok.ensures.position (λ other. const_cmp other c.args.constant.now)
-    (always_returns_same _ (λ a r. r ≡ const_cmp a.0.now c.args.constant.now) _ (λ a r f k. search rules)))).1)
+pub overflow_cast-result : goal.overflow_cast-result
+overflow_cast-result c =
+    let e = c.place_of.ensures in
+    let few = c.requires.few in
+    let within = prefix_len-le-length (λ (b : Const). not (is_eq (const_cmp (const_of c.key_of.result) b))) c.args.constants.now in
+    omega (arith, e, few, within)
 
-pub returns-in-Err : goal.returns-in-Err
-returns-in-Err c =
-    sym (found const_lawful c.args.constants.now c.requires.ordered c.args.constant.now (Err c.in-Err.field-0) c.in-Err.ensures.bound
-    (c.in-Err.ensures.position (λ other. const_cmp other c.args.constant.now)
-    (always_returns_same _ (λ a r. r ≡ const_cmp a.0.now c.args.constant.now) _ (λ a r f k. search rules))))
+pub returns : goal.returns
+returns c = c.place_of.ensures ∙ ap (const_rank c.args.constants.now) c.key_of.ensures

@@ -1,4 +1,4 @@
-use Rattle.std.proofs.Common.{ℕ, ◌≡◌, ◌++◌, ◌∙◌, ap, List}
+use Rattle.std.proofs.Common.{◌++◌, ◌∙◌, ap, List}
 use Rattle.std.specs.List.{flat_map}
 use Rattle.std.proofs.lemmas.List.Filters.{dedup_is}
 use Rattle.asp_defs.specs.Constants.{distinct}

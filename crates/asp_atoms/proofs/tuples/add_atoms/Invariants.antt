@@ -1,5 +1,4 @@
 use Rattle.std.proofs.Common.{◌≡◌, ◌++◌, map}
-use Rattle.asp_defs.specs.declared.ground.GroundAtom.{GroundAtom}
 use Rattle.asp_atoms.proofs.tuples.add_atoms.Given as goal
 
 abbrev pub invariant-loop-args : goal.invariant-loop-args

@@ -1,4 +1,4 @@
-use Rattle.std.proofs.Common.{◌≡◌, ◌∷◌, ◌++◌, ◌∙◌, sym, ap, List, map, arith}
+use Rattle.std.proofs.Common.{◌∷◌, ◌++◌, ◌∙◌, sym, ap, List, map, arith}
 use Rattle.asp_defs.specs.declared.ground.Const.{Const}
 use Rattle.asp_atoms.proofs.Loops.{flat_more}
 use Rattle.asp_atoms.proofs.tuples.longer.Goals as goal
