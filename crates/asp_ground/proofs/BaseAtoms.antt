@@ -11,7 +11,7 @@ use Rattle.asp_defs.specs.declared.syntax.Program.{Program}
 use Rattle.asp_defs.specs.Lists.{IsIn, numbers_from}
 use Rattle.asp_defs.specs.Interpretations.{holds}
 use Rattle.asp_defs.specs.Constants.{atom_cmp, universe}
-use Rattle.asp_defs.specs.Bases.{Predicate, predicates, predicate_atoms, base_atoms, atom_number, last_level}
+use Rattle.asp_defs.specs.Bases.{predicates, predicate_atoms, base_atoms, atom_number, last_level}
 use Rattle.asp_defs.specs.Games.{ascends, within, nested}
 use Rattle.asp_defs.proofs.Lists.{all_from, any_from, and_true, map_at, map_from}
 use Rattle.asp_atoms.specs.Ascending.{Ascends}
@@ -19,17 +19,16 @@ use Rattle.asp_atoms.proofs.Orders.{atom_lawful}
 use Rattle.asp_atoms.proofs.Ascending.{never_back, flat_map_at, flat_map_in}
 use Rattle.asp_atoms.proofs.Positions.{Stands, stands, ascends_at, place_of, place_below}
 use Rattle.asp_atoms.proofs.Tupling.{applied, tuples, tuple_from, tuple_wider, atoms_ascend}
+use Rattle.asp_atoms.proofs.Levels.{get_number, length_numbers}
+use Rattle.asp_ground.proofs.Parts.{make_predicate}
 use Rattle.asp_atoms.proofs.Assembling.{universe_ascends, universe_grows, predicates_ascend, predicates_grow, numbers_below}
 
 -- ---- the atoms of a base
 
-abbrev written_predicate : List ℕ → ℕ → Predicate
-written_predicate name arity = record { name = name; arity = arity }
-
 -- an atom over the predicates and constants of a level
 pub base_from : (p : Program) (i : ℕ) (name : List ℕ) (args : List Const) → IsIn (record { name = name; arity = length args }) (predicates p i) → ((x : Const) → IsIn x args → IsIn x (universe p i)) → IsIn (record { name = name; args = args }) (base_atoms p i)
 base_from p i name args q h =
-    let pred = written_predicate name (length args) in
+    let pred = make_predicate name (length args) in
     flat_map_in (predicate_atoms (universe p i)) (predicates p i) pred (applied pred args) q
     (map_from (applied pred) (tuples (length args) (universe p i)) args (tuple_from (length args) (universe p i) args refl h))
 
@@ -117,15 +116,6 @@ bases_nested p = nested_from (base_numbers p) 0 (last_level p + 1) (λ i.
     numbers_within (atom_number (base_atoms p (last_level p))) (base_atoms p i) (base_atoms p (suc i)) (base_grows p i (suc i) (omega arith)))
 
 -- ---- the base of a level
-
-get_number : (first count i d : ℕ) → i < count → get_or (numbers_from first count) i d ≡ first + i
-get_number first zero i d h = absurd (omega arith)
-get_number first (suc count) zero d h = omega arith
-get_number first (suc count) (suc i) d h = let rest = get_number (suc first) count i d (omega arith) in omega (arith, rest)
-
-length_numbers : (first count : ℕ) → length (numbers_from first count) ≡ count
-length_numbers first zero = refl
-length_numbers first (suc count) = let rest = length_numbers (suc first) count in omega (arith, rest)
 
 pub bases_long : (p : Program) → length (map (base_numbers p) (numbers_from 0 (last_level p + 1))) ≡ last_level p + 1
 bases_long p = length-map (numbers_from 0 (last_level p + 1)) (base_numbers p) ∙ length_numbers 0 (last_level p + 1)

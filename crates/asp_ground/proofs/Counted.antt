@@ -28,43 +28,44 @@ use Rattle.asp_defs.specs.Checks.{is_checked}
 use Rattle.asp_atoms.specs.declared.vocabularies.Vocabulary.{Vocabulary}
 use Rattle.asp_atoms.specs.Vocabularies.{vocabulary_of}
 use Rattle.asp_atoms.specs.Answers.{base_too_large}
+use Rattle.asp_atoms.proofs.Orders.{const_lawful}
+use Rattle.asp_atoms.proofs.Ascending.{in_with, with_new, with_old, ascends_with, ascends_distinct, in_distinct, distinct_from, distinct_is}
+use Rattle.asp_atoms.proofs.Gathering.{few_constants}
+use Rattle.asp_ground.proofs.Parts.{make_rule, with_args, suc_is_not, more_is_not}
 use Rattle.asp_ground.specs.Variables.{disjunctive_variables, element_variables}
 use Rattle.asp_ground.specs.Counts.{with_constant, choice_count, fact_count, head_count, rule_count, counted_from}
-use Rattle.asp_ground.proofs.Orders.{const_total, const_equal}
-use Rattle.asp_ground.proofs.Members.{with_in, in_with, kept_in, distinct_is_ascending, keeps_ascending, in_distinct, from_distinct, same_ascending, few_ascending}
+use Rattle.asp_ground.proofs.Gathered.{roomed}
+use Rattle.asp_ground.proofs.Members.{few_ascending}
 use Rattle.asp_ground.proofs.Products.{with_first, flat_map_append, tuple_member}
 use Rattle.asp_ground.proofs.FactInstances.{KnownArgument, KnownConstant, KnownFact, choice_known}
-use Rattle.asp_ground.proofs.RuleInstances.{KnownRule, make_rule, disjunctive_found, element_found, known_fact}
-use Rattle.asp_ground.proofs.Levels.{small_constants, constant_known, rule_known}
+use Rattle.asp_ground.proofs.RuleInstances.{KnownRule, disjunctive_found, element_found, known_fact}
+use Rattle.asp_ground.proofs.Levels.{constant_known, rule_known}
 
 -- ---- constants from the front
-
-abbrev roomed : Bool → List Const → Const → List Const
-roomed room found c = if room then with_member const_cmp c found else found
 
 -- one constant more
 one_more : (xs : List Const) (c : Const) → with_member const_cmp c (distinct const_cmp xs) ≡ distinct const_cmp (xs ++ c ∷ [])
 one_more xs c =
-    same_ascending const_cmp const_total (with_member const_cmp c (distinct const_cmp xs)) (distinct const_cmp (xs ++ c ∷ []))
-    (keeps_ascending const_cmp const_total c (distinct const_cmp xs) (distinct_is_ascending const_cmp const_total xs))
-    (distinct_is_ascending const_cmp const_total (xs ++ c ∷ []))
-    (λ z i. in_distinct const_cmp const_equal (xs ++ c ∷ []) z (elim (with_in const_cmp c (distinct const_cmp xs) z i) [
-      | inl e ↦ append_right xs (c ∷ []) z (inl e)
-      | inr j ↦ append_left xs (c ∷ []) z (from_distinct const_cmp xs z j)
-    ]))
-    (λ z i. elim (append_at xs (c ∷ []) z (from_distinct const_cmp (xs ++ c ∷ []) z i)) [
-      | inl j ↦ kept_in const_cmp c (distinct const_cmp xs) z (in_distinct const_cmp const_equal xs z j)
-      | inr j ↦ elim j [
-        | inl e ↦ subst (λ (w : Const). IsIn w (with_member const_cmp c (distinct const_cmp xs))) (sym e) (in_with const_cmp const_equal c (distinct const_cmp xs))
-        | inr k ↦ absurd k
-      ]
-    ])
+    distinct_is const_lawful (xs ++ c ∷ []) (with_member const_cmp c (distinct const_cmp xs))
+    (ascends_with const_lawful c (distinct const_cmp xs) (ascends_distinct const_lawful xs)) (record {
+      whole = λ z i. elim (append_at xs (c ∷ []) z i) [
+        | inl j ↦ with_old const_lawful c (distinct const_cmp xs) z (distinct_from const_lawful xs z j)
+        | inr j ↦ elim j [
+          | inl e ↦ subst (λ (w : Const). IsIn w (with_member const_cmp c (distinct const_cmp xs))) (sym e) (with_new const_lawful c (distinct const_cmp xs))
+          | inr k ↦ absurd k
+        ]
+      ];
+      within = λ z i. elim (in_with const_lawful c (distinct const_cmp xs) z i) [
+        | inl e ↦ append_right xs (c ∷ []) z (inl e)
+        | inr j ↦ append_left xs (c ∷ []) z (in_distinct const_lawful xs z j)
+      ];
+    })
 
 few_front : (xs ys : List Const) → length (distinct const_cmp xs) ≤ length (distinct const_cmp (xs ++ ys))
 few_front xs ys =
-    few_ascending const_cmp const_total (distinct const_cmp xs) (distinct const_cmp (xs ++ ys))
-    (distinct_is_ascending const_cmp const_total xs) (distinct_is_ascending const_cmp const_total (xs ++ ys))
-    (λ z i. in_distinct const_cmp const_equal (xs ++ ys) z (append_left xs ys z (from_distinct const_cmp xs z i)))
+    few_ascending const_lawful (distinct const_cmp xs) (distinct const_cmp (xs ++ ys))
+    (ascends_distinct const_lawful xs) (ascends_distinct const_lawful (xs ++ ys))
+    (λ z i. distinct_from const_lawful (xs ++ ys) z (append_left xs ys z (in_distinct const_lawful xs z i)))
 
 pub gathered : (xs ys : List Const) → length (distinct const_cmp (xs ++ ys)) ≤ 4096 → fold with_constant (distinct const_cmp xs) ys ≡ distinct const_cmp (xs ++ ys)
 gathered xs [] few = ap (distinct const_cmp) (sym (append-nil xs))
@@ -172,9 +173,6 @@ choice_of v args tuple known i u j =
     let term = map_at term_choices args from.0 from.1 in
     choice_known v term.0 u (known term.0 term.1) (subst (λ (xs : List Term). IsIn u xs) term.2 from.2)
 
-abbrev with_args : Atom → List Term → Atom
-with_args a args = record { name = a.name; args = args }
-
 abbrev bare : Atom → Schema
 bare b = disjunctive_schema (b ∷ []) []
 
@@ -196,12 +194,6 @@ either_count size heads body a is_one = if is_one then fact_count a else size ^ 
 one_counted : (size : ℕ) (heads : List Atom) (body : List Literal) → variable_count (make_rule (Disj heads) body) ≤ 16 → size ^ length (disjunctive_variables heads body) ≡ sum_by (size_of size) (disjunctive_schema heads body ∷ [])
 one_counted size heads body few =
     ap (λ (vs : List Term). size ^ length vs) (disjunctive_found heads body few) ∙ sym (zero-add (size_of size (disjunctive_schema heads body)))
-
-suc_is_not : (n : ℕ) → suc n ≡ 0 → ⊥
-suc_is_not n e = absurd (omega arith)
-
-more_is_not : (n : ℕ) → suc (suc n) ≡ 1 → ⊥
-more_is_not n e = absurd (omega arith)
 
 head_counted : (v : Vocabulary) (size : ℕ) (head : Head) (body : List Literal) → KnownRule v head body → head_count size head body ≡ sum_by (size_of size) (head_schemas head body)
 head_counted v size (Disj []) body known = one_counted size [] body known.few
@@ -232,11 +224,11 @@ joined_more done rules =
     ap (flat_map rule_constants) (flat_map_append (λ (rs : List Rule). rs) done (rules ∷ []) ∙ ap (λ (rs : List Rule). joined done ++ rs) (append-nil rules))
     ∙ flat_map_append rule_constants (joined done) rules
 
-few_constants : (p : Program) → base_too_large p ≡ None → (done : List (List Rule)) (more : List (List Rule)) → level_rules p ≡ done ++ more → length (distinct const_cmp (constants_in done)) ≤ 4096
-few_constants p e done more whole =
-    let most = small_constants p e in
-    let few = few_ascending const_cmp const_total (distinct const_cmp (constants_in done)) (universe p (last_level p))
-    (distinct_is_ascending const_cmp const_total (constants_in done)) (distinct_is_ascending const_cmp const_total (flat_map rule_constants (rules_to p (last_level p)))) (λ c i. known c (from_distinct const_cmp (constants_in done) c i)) in
+few_done : (p : Program) → base_too_large p ≡ None → (done : List (List Rule)) (more : List (List Rule)) → level_rules p ≡ done ++ more → length (distinct const_cmp (constants_in done)) ≤ 4096
+few_done p e done more whole =
+    let most = few_constants p e in
+    let few = few_ascending const_lawful (distinct const_cmp (constants_in done)) (universe p (last_level p))
+    (ascends_distinct const_lawful (constants_in done)) (ascends_distinct const_lawful (flat_map rule_constants (rules_to p (last_level p)))) (λ c i. known c (in_distinct const_lawful (constants_in done) c i)) in
     omega (arith, most, few)
   where
     known : (c : Const) → IsIn c (constants_in done) → IsIn c (universe p (last_level p))
@@ -250,7 +242,7 @@ levels_counted p checked checkable e done [] whole = refl
 levels_counted p checked checkable e done (rules ∷ more) whole =
     let next : level_rules p ≡ (done ++ rules ∷ []) ++ more = whole ∙ sym (append_assoc done (rules ∷ []) more) in
     let found : fold with_constant (distinct const_cmp (constants_in done)) (flat_map rule_constants rules) ≡ distinct const_cmp (constants_in (done ++ rules ∷ [])) =
-    gathered (constants_in done) (flat_map rule_constants rules) (subst (λ (cs : List Const). length (distinct const_cmp cs) ≤ 4096) (joined_more done rules) (few_constants p e (done ++ rules ∷ []) more next))
+    gathered (constants_in done) (flat_map rule_constants rules) (subst (λ (cs : List Const). length (distinct const_cmp cs) ≤ 4096) (joined_more done rules) (few_done p e (done ++ rules ∷ []) more next))
     ∙ ap (distinct const_cmp) (sym (joined_more done rules)) in
     let number : length (done ++ rules ∷ []) ≡ length done + 1 = length-append done (rules ∷ []) in
     let here : take (length done + 1) (level_rules p) ≡ done ++ rules ∷ [] =

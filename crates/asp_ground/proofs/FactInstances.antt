@@ -16,12 +16,16 @@ use Rattle.asp_defs.specs.Instances.{Schema, term_variables, first_occurrences, 
 use Rattle.asp_defs.proofs.Lists.{map_at}
 use Rattle.asp_atoms.specs.declared.vocabularies.Vocabulary.{Vocabulary}
 use Rattle.asp_atoms.specs.Vocabularies.{unnumbered, const_rank}
+use Rattle.asp_atoms.proofs.Levels.{length_numbers}
+use Rattle.asp_ground.proofs.Parts.{with_args, all_instances}
 use Rattle.asp_ground.specs.declared.template.Slot.{Slot}
 use Rattle.asp_ground.specs.declared.template.Slot.TheVariants.{Variable}
 use Rattle.asp_ground.specs.Ranks.{capped, rank_of, first_of}
 use Rattle.asp_ground.specs.Templates.{slot_rank, number_at, instance_at}
 use Rattle.asp_ground.specs.Compiled.{argument_ranks, fact_template, fact_instances}
-use Rattle.asp_ground.proofs.Products.{flat_map_same, map_same, map_map, flat_map_map, product_map, tuple_length, tuple_member}
+use Rattle.asp_atoms.proofs.Choosing.{flat_map_agrees}
+use Rattle.asp_atoms.proofs.Numbering.{map_agrees, map_map}
+use Rattle.asp_ground.proofs.Products.{flat_map_map, product_map, tuple_length, tuple_member}
 use Rattle.asp_ground.proofs.Known.{Numbers, make_ground}
 use Rattle.asp_ground.proofs.Numbers.{const_at, stands, template_number}
 
@@ -119,20 +123,10 @@ slots_read ranks count e =
     map_map (slot_rank ranks) Variable (numbers_from 0 count)
     ∙ (ap (λ n. map (λ i. get_or ranks i 0) (numbers_from 0 n)) (sym e) ∙ reads_itself ranks)
 
-pub length-numbers_from : (k n : ℕ) → length (numbers_from k n) ≡ n
-length-numbers_from k zero = refl
-length-numbers_from k (suc n) = ap suc (length-numbers_from (suc k) n)
-
 -- ---- one fact
 
 abbrev one_rule : ℕ → List GroundRule
 one_rule number = record { choice = false; head = number ∷ []; pos = []; neg = [] } ∷ []
-
-abbrev with_args : Atom → List Term → Atom
-with_args a args = record { name = a.name; args = args }
-
-abbrev all_instances : List GroundAtom → List Const → Schema → List GroundRule
-all_instances atoms U s = flat_map (instance atoms s) (assignments U s)
 
 abbrev bare_fact : Atom → List Term → List Term → Schema
 bare_fact a tuple variables = record { choice = false; heads = with_args a tuple ∷ []; body = []; variables = variables }
@@ -157,7 +151,7 @@ no_variables v atoms (t ∷ tuple) n known =
 values_are : (v : Vocabulary) (atoms : List GroundAtom) (tuple : List Term) → Numbers atoms v → ((u : Term) → IsIn u tuple → KnownConstant v u) → map (const_at v.constants) (map (term_rank v.constants) tuple) ≡ map (term_value [] []) tuple
 values_are v atoms tuple n known =
     map_map (const_at v.constants) (term_rank v.constants) tuple
-    ∙ map_same (λ t. const_at v.constants (term_rank v.constants t)) (term_value [] []) tuple (λ t i. (plain atoms v t n (known t i)).value)
+    ∙ map_agrees (λ t. const_at v.constants (term_rank v.constants t)) (term_value [] []) tuple (λ t i. (plain atoms v t n (known t i)).value)
 
 ranks_below : (v : Vocabulary) (atoms : List GroundAtom) (tuple : List Term) → Numbers atoms v → ((u : Term) → IsIn u tuple → KnownConstant v u) → (rank : ℕ) → IsIn rank (map (term_rank v.constants) tuple) → rank < length v.constants
 ranks_below v atoms tuple n known rank i =
@@ -172,7 +166,7 @@ fact_number atoms v a ranks n predicate same below =
     let arity : length a.args ≡ found.0.arity = ap (λ (p : Predicate). p.arity) found.2 in
     let slots : List Slot = map Variable (numbers_from 0 (length a.args)) in
     let reads : map (slot_rank ranks) slots ≡ ranks = slots_read ranks (length a.args) same in
-    let count : length slots ≡ found.0.arity = length-map (numbers_from 0 (length a.args)) Variable ∙ (length-numbers_from 0 (length a.args) ∙ arity) in
+    let count : length slots ≡ found.0.arity = length-map (numbers_from 0 (length a.args)) Variable ∙ (length_numbers 0 (length a.args) ∙ arity) in
     ap (λ (p : Predicate). number_at (capped (length v.constants)) ranks (record { first = first_of v.predicates p; slots = slots })) found.2
     ∙ (template_number atoms v found.0 ranks slots n found.1 count (λ rank i. below rank (subst (λ (rs : List ℕ). IsIn rank rs) reads i))
     ∙ (ap (λ rs. atom_number atoms (make_ground found.0.name (map (const_at v.constants) rs))) reads
@@ -191,14 +185,14 @@ one_fact atoms U v a tuple n known i =
 
 domains_are : (v : Vocabulary) (args : List Term) → ((t : Term) → IsIn t args → KnownArgument v t) → map (argument_ranks v.constants) args ≡ map (map (term_rank v.constants)) (map term_choices args)
 domains_are v args known =
-    map_same (argument_ranks v.constants) (λ t. map (term_rank v.constants) (term_choices t)) args (λ t i. ranks_are v t (known t i))
+    map_agrees (argument_ranks v.constants) (λ t. map (term_rank v.constants) (term_choices t)) args (λ t i. ranks_are v t (known t i))
     ∙ sym (map_map (map (term_rank v.constants)) term_choices args)
 
 pub fact_is : (atoms : List GroundAtom) (U : List Const) (v : Vocabulary) (a : Atom) → Numbers atoms v → KnownFact v a → flat_map (λ s. flat_map (instance atoms s) (assignments U s)) (map (λ b. disjunctive_schema (b ∷ []) []) (spread a)) ≡ fact_instances v a
 fact_is atoms U v a n known =
     flat_map_map (all_instances atoms U) (λ b. disjunctive_schema (b ∷ []) []) (spread a)
     ∙ (flat_map_map (λ b. all_instances atoms U (disjunctive_schema (b ∷ []) [])) (with_args a) (product (map term_choices a.args))
-    ∙ (flat_map_same (λ tuple. all_instances atoms U (disjunctive_schema (with_args a tuple ∷ []) [])) (λ tuple. instance_at (capped (length v.constants)) (fact_template v a) (map (term_rank v.constants) tuple)) (product (map term_choices a.args)) (λ tuple i. one_fact atoms U v a tuple n known i)
+    ∙ (flat_map_agrees (λ tuple. all_instances atoms U (disjunctive_schema (with_args a tuple ∷ []) [])) (λ tuple. instance_at (capped (length v.constants)) (fact_template v a) (map (term_rank v.constants) tuple)) (product (map term_choices a.args)) (λ tuple i. one_fact atoms U v a tuple n known i)
     ∙ (sym (flat_map_map (instance_at (capped (length v.constants)) (fact_template v a)) (map (term_rank v.constants)) (product (map term_choices a.args)))
     ∙ (ap (flat_map (instance_at (capped (length v.constants)) (fact_template v a))) (sym (product_map (term_rank v.constants) (map term_choices a.args)))
     ∙ ap (λ domains. flat_map (instance_at (capped (length v.constants)) (fact_template v a)) (product domains)) (sym (domains_are v a.args known.terms))))))

@@ -1,60 +1,65 @@
 -- Constants that are gathered in their order.
-use Rattle.std.proofs.Common.{ℕ, ℤ, zero, suc, ◌≡◌, ◌<◌, ◌≤◌, ◌+◌, refl, sym, ◌∙◌, ap, subst, inl, inr, Bool, List, [], ◌∷◌, ◌++◌, map, take, drop, length, get_or, append-nil, arith}
+use Rattle.std.proofs.Common.{ℕ, ℤ, zero, suc, ◌≡◌, ◌<◌, ◌≤◌, ◌+◌, refl, sym, ◌∙◌, ap, subst, inl, inr, Bool, true, Result, Ok, Err, List, [], ◌∷◌, ◌++◌, map, take, drop, length, get_or, append-nil, arith}
 use Rattle.std.specs.Prelude.{pos, ◌+ℤ◌, if◌then◌else◌, nat_lt}
 use Rattle.std.specs.List.{fold, flat_map, insert}
+use Rattle.std.specs.List.Sorted.{IsBinarySearchResult, IsSearchInRange}
+use Rattle.std.specs.Ordering.{is_eq}
 use Rattle.std.specs.declared.cmp.Ordering.{Ordering}
 use Rattle.std.specs.declared.cmp.Ordering.TheVariants.{Less, Equal, Greater}
 use Rattle.std.proofs.lemmas.Bool.{lt-ltb}
 use Rattle.std.proofs.lemmas.Cmp.{tied_itself}
-use Rattle.std.proofs.lemmas.List.{get_or-map, length-map, get_or_default, take_more}
+use Rattle.std.proofs.lemmas.List.{get_or-map, length-map, take_more}
+use Rattle.std.proofs.lemmas.List.Sorted.{searchable_from_sorted}
 use Rattle.asp_defs.specs.declared.ground.Const.{Const}
 use Rattle.asp_defs.specs.declared.ground.Const.TheVariants as const
 use Rattle.asp_defs.specs.Lists.{IsIn}
 use Rattle.asp_defs.specs.Constants.{const_cmp, with_member, integers_from}
-use Rattle.asp_defs.proofs.Lists.{true_or_false, map_from}
-use Rattle.asp_ground.specs.declared.ranks.Key.{Key}
-use Rattle.asp_ground.specs.declared.ranks.Key.TheVariants.{Int}
-use Rattle.asp_ground.specs.Ranks.{IsAscending, const_of}
-use Rattle.asp_ground.specs.Gaps.{Gap}
+use Rattle.asp_defs.proofs.Lists.{true_or_false}
+use Rattle.asp_atoms.specs.declared.keys.Key.{Key}
+use Rattle.asp_atoms.specs.declared.keys.Key.TheVariants.{Int}
+use Rattle.asp_atoms.specs.Ascending.{Ascends}
+use Rattle.asp_atoms.specs.Keys.{const_of}
+use Rattle.asp_atoms.proofs.Orders.{const_lawful}
+use Rattle.asp_atoms.proofs.Ascending.{turned, turned_back, ascends_with}
+use Rattle.asp_atoms.proofs.Positions.{ascends_at, sorted, stands}
+use Rattle.asp_atoms.proofs.Settled.{is_equal}
+use Rattle.asp_atoms.proofs.Integers.{integers_more}
+use Rattle.asp_ground.specs.Gaps.{IsAt, Gap, IsPlace, HasAll}
 use Rattle.asp_ground.specs.Counts.{with_constant, Gathers}
-use Rattle.asp_ground.proofs.Orders.{const_total, const_equal}
-use Rattle.asp_ground.proofs.Ascending.{Halves, ByPart, halves_lower, halves_upper, in_place, place_in, turned}
-use Rattle.asp_ground.proofs.Members.{keeps_ascending}
 use Rattle.asp_ground.proofs.Products.{flat_map_append}
-use Rattle.asp_ground.proofs.Steps.{map_append}
-use Rattle.asp_ground.proofs.Integers.{integers_more}
+use Rattle.asp_ground.proofs.Steps.{map_append, fold_append}
 
--- ---- a search by halves that reads copies
-
-read_itself : (xs : List Key) (i : ℕ) (d : Key) → i < length xs → get_or xs i d ≡ get_or xs i (get_or xs i d)
-read_itself xs i d h = get_or_default xs i d (get_or xs i d) h
-
-pub lower_at : (c : Const) (xs : List Key) (low high middle : ℕ) (d : Key) → ByPart const_cmp const_of xs → Halves const_cmp const_of c xs low high → low ≤ middle → middle < high → const_cmp c (const_of (get_or xs middle d)) ≡ Less → Halves const_cmp const_of c xs low middle
-lower_at c xs low high middle d up halves from to less =
-    let w = halves.within in
-    halves_lower const_cmp const_of c xs low high middle (get_or xs middle d) const_total up halves from to (read_itself xs middle d (omega (arith, w, to))) less
-
-pub upper_at : (c : Const) (xs : List Key) (low high middle : ℕ) (d : Key) → ByPart const_cmp const_of xs → Halves const_cmp const_of c xs low high → low ≤ middle → middle < high → const_cmp c (const_of (get_or xs middle d)) ≡ Greater → Halves const_cmp const_of c xs (middle + 1) high
-upper_at c xs low high middle d up halves from to greater =
-    let w = halves.within in
-    halves_upper const_cmp const_of c xs low high middle (get_or xs middle d) const_total up halves from to (read_itself xs middle d (omega (arith, w, to))) greater
-
-pub equal_in : (c : Const) (xs : List Key) (i : ℕ) (d : Key) → i < length xs → const_cmp c (const_of (get_or xs i d)) ≡ Equal → IsIn c (map const_of xs)
-equal_in c xs i d h e =
-    subst (λ (x : Const). IsIn x (map const_of xs)) (sym (const_equal c (const_of (get_or xs i d)) e)) (map_from const_of xs (get_or xs i d) (in_place xs i d h))
+-- ---- a search that reads copies
 
 abbrev some_key : Key
 some_key = Int (pos 0)
 
-pub gap_at : (c : Const) (xs : List Key) (low high : ℕ) → Halves const_cmp const_of c xs low high → high ≤ low → Gap (map const_of xs) c low
-gap_at c xs low high halves done =
+-- what a search answers is the place of a constant
+pub placed : (xs : List Key) → Ascends const_cmp (map const_of xs) → (c : Const) (r : Result ℕ ℕ) → IsSearchInRange r (length xs) → IsBinarySearchResult (λ y. const_cmp (const_of y) c) xs r → IsPlace (map const_of xs) c r
+placed xs up c (Ok i) range found =
+    let long = length-map xs const_of in record {
+      inside = omega (arith, range, long);
+      is = λ d. get_or-map const_of xs i some_key d range ∙ const_lawful.exact (const_of (get_or xs i some_key)) c (found some_key);
+    }
+placed xs up c (Err i) range found =
     let long = length-map xs const_of in
-    let ordered = halves.ordered in
-    let within = halves.within in
-    record {
-      within = omega (arith, long, ordered, within, done);
-      below = λ k d h. subst (λ (x : Const). const_cmp c x ≡ Greater) (sym (get_or-map const_of xs k some_key d (omega (arith, h, ordered, within)))) (halves.below k some_key h);
-      above = λ k d h l. subst (λ (x : Const). const_cmp c x ≡ Less) (sym (get_or-map const_of xs k some_key d (omega (arith, l, long)))) (halves.above k some_key (omega (arith, done, h)) (omega (arith, l, long)));
+    let parts = found (searchable_from_sorted const_lawful.total const_of xs c (sorted const_lawful const_of xs up)) in record {
+      within = omega (arith, range, long);
+      below = λ k d h.
+          subst (λ (x : Const). const_cmp c x ≡ Greater) (sym (get_or-map const_of xs k some_key d (omega (arith, h, range))))
+          (turned_back const_lawful (const_of (get_or xs k some_key)) c (parts.0 k some_key (omega arith) h));
+      above = λ k d h l.
+          let inside : k < length xs = omega (arith, l, long) in
+          subst (λ (x : Const). const_cmp c x ≡ Less) (sym (get_or-map const_of xs k some_key d inside))
+          (turned const_lawful (const_of (get_or xs k some_key)) c (parts.1 k some_key h inside));
+    }
+
+-- a constant that is read at a place and compares as equal stands there
+pub read_at : (xs : List Key) (place : ℕ) (d : Key) (c : Const) (r : Ordering) → place < length xs → r ≡ const_cmp (const_of (get_or xs place d)) c → is_eq r ≡ true → IsAt (map const_of xs) c place
+read_at xs place d c r h e same =
+    let long = length-map xs const_of in record {
+      inside = omega (arith, h, long);
+      is = λ x. get_or-map const_of xs place d x h ∙ const_lawful.exact (const_of (get_or xs place d)) c (sym e ∙ is_equal r same);
     }
 
 -- ---- a constant that is put to others
@@ -88,16 +93,16 @@ map_insert [] (suc place) key = refl
 map_insert (x ∷ xs) zero key = refl
 map_insert (x ∷ xs) (suc place) key = ap (λ cs. const_of x ∷ cs) (map_insert xs place key)
 
-abbrev roomed : Bool → List Const → Const → List Const
+abbrev pub roomed : Bool → List Const → Const → List Const
 roomed room found c = if room then with_member const_cmp c found else found
 
-pub with_constant_ascends : (found : List Const) (c : Const) → IsAscending const_cmp found → IsAscending const_cmp (with_constant found c)
+pub with_constant_ascends : (found : List Const) (c : Const) → Ascends const_cmp found → Ascends const_cmp (with_constant found c)
 with_constant_ascends found c up = elim (true_or_false (nat_lt (length found) 4097)) [
-  | inl e ↦ subst (λ (b : Bool). IsAscending const_cmp (roomed b found c)) (sym e) (keeps_ascending const_cmp const_total c found up)
-  | inr e ↦ subst (λ (b : Bool). IsAscending const_cmp (roomed b found c)) (sym e) up
+  | inl e ↦ subst (λ (b : Bool). Ascends const_cmp (roomed b found c)) (sym e) (ascends_with const_lawful c found up)
+  | inr e ↦ subst (λ (b : Bool). Ascends const_cmp (roomed b found c)) (sym e) up
 ]
 
-pub inserted : (xs ys : List Key) (key : Key) (place : ℕ) → IsAscending const_cmp (map const_of xs) → Gap (map const_of xs) (const_of key) place → length xs < 4097 → ys ≡ insert xs place key → Gathers (map const_of xs) (map const_of ys) (const_of key ∷ [])
+pub inserted : (xs ys : List Key) (key : Key) (place : ℕ) → Ascends const_cmp (map const_of xs) → Gap (map const_of xs) (const_of key) place → length xs < 4097 → ys ≡ insert xs place key → Gathers (map const_of xs) (map const_of ys) (const_of key ∷ [])
 inserted xs ys key place up gap room is =
     let long = length-map xs const_of in
     let added : map const_of ys ≡ with_constant (map const_of xs) (const_of key) =
@@ -105,7 +110,7 @@ inserted xs ys key place up gap room is =
     ∙ (map_insert xs place key
     ∙ (sym (with_gap (const_of key) (map const_of xs) place gap.within gap.below gap.above)
     ∙ ap (λ b. roomed b (map const_of xs) (const_of key)) (sym (lt-ltb (length (map const_of xs)) 4097 (omega (arith, long, room)))))) in
-    record { added = added; ascending = subst (λ (cs : List Const). IsAscending const_cmp cs) (sym added) (with_constant_ascends (map const_of xs) (const_of key) up) }
+    record { added = added; ascending = subst (λ (cs : List Const). Ascends const_cmp cs) (sym added) (with_constant_ascends (map const_of xs) (const_of key) up) }
 
 either_way : (xs : List Const) (c : Const) → with_member const_cmp c xs ≡ xs → with_constant xs c ≡ xs
 either_way xs c same = elim (true_or_false (nat_lt (length xs) 4097)) [
@@ -113,23 +118,25 @@ either_way xs c same = elim (true_or_false (nat_lt (length xs) 4097)) [
   | inr e ↦ ap (λ b. roomed b xs c) e
 ]
 
-pub there : (xs : List Const) (c : Const) → IsAscending const_cmp xs → IsIn c xs → Gathers xs xs (c ∷ [])
+there_at : (xs : List Const) (c : Const) (place : ℕ) → Ascends const_cmp xs → place < length xs → get_or xs place c ≡ c → with_member const_cmp c xs ≡ xs
+there_at xs c place up h is =
+    with_there c xs place c h
+    (λ k l. subst (λ (x : Const). const_cmp x (get_or xs k c) ≡ Greater) is (turned_back const_lawful (get_or xs k c) (get_or xs place c) (ascends_at const_cmp xs up k place c l h)))
+    (subst (λ (x : Const). const_cmp c x ≡ Equal) (sym is) (tied_itself const_lawful.total c))
+
+pub there : (xs : List Const) (c : Const) → Ascends const_cmp xs → IsIn c xs → Gathers xs xs (c ∷ [])
 there xs c up i =
-    let found = place_in xs c c i in
-    let equal : const_cmp c (get_or xs found.0 c) ≡ Equal = subst (λ (x : Const). const_cmp c x ≡ Equal) (sym found.2) (tied_itself const_total c) in
-    let same : with_member const_cmp c xs ≡ xs =
-    with_there c xs found.0 c found.1
-    (λ k l. subst (λ (x : Const). const_cmp x (get_or xs k c) ≡ Greater) found.2 (turned const_cmp const_total (get_or xs k c) (get_or xs found.0 c) (up.below k found.0 c l found.1)))
-    equal in
-    record { added = sym (either_way xs c same); ascending = up }
+    let found = stands xs c i in
+    record { added = sym (either_way xs c (there_at xs c found.at up found.below (found.is c))); ascending = up }
+
+-- the same from its place
+pub there_already : (xs : List Const) (c : Const) (place : ℕ) → Ascends const_cmp xs → IsAt xs c place → Gathers xs xs (c ∷ [])
+there_already xs c place up found =
+    record { added = sym (either_way xs c (there_at xs c place up found.inside (found.is c))); ascending = up }
 
 -- ---- constants that two calls gather
 
-fold_append : {A B : Type 0} (f : B → A → B) (b : B) (xs ys : List A) → fold f b (xs ++ ys) ≡ fold f (fold f b xs) ys
-fold_append f b [] ys = refl
-fold_append f b (x ∷ xs) ys = fold_append f (f b x) xs ys
-
-pub none : (old : List Const) → IsAscending const_cmp old → Gathers old old []
+pub none : (old : List Const) → Ascends const_cmp old → Gathers old old []
 none old up = record { added = refl; ascending = up }
 
 pub gathers_two : (old middle new : List Const) (xs ys : List Const) → Gathers old middle xs → Gathers middle new ys → Gathers old new (xs ++ ys)
@@ -137,6 +144,12 @@ gathers_two old middle new xs ys first second = record {
   added = second.added ∙ (ap (λ cs. fold with_constant cs ys) first.added ∙ sym (fold_append with_constant old xs ys));
   ascending = second.ascending;
 }
+
+-- constants that are there already
+pub all_there : (old xs : List Const) → Ascends const_cmp old → HasAll old xs → Gathers old old xs
+all_there old [] up has = none old up
+all_there old (x ∷ xs) up has =
+    gathers_two old old old (x ∷ []) xs (there old x up (has x (inl refl))) (all_there old xs up (λ c i. has c (inr i)))
 
 pub gathers_more : {A : Type 0} (f : A → List Const) (old now next : List Const) (xs : List A) (i : ℕ) (x : A) → i < length xs → x ≡ get_or xs i x → Gathers old now (flat_map f (take i xs)) → Gathers now next (f x) → Gathers old next (flat_map f (take (i + 1) xs))
 gathers_more f old now next xs i x h is so_far step =

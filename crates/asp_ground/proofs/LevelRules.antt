@@ -1,6 +1,6 @@
 -- The ground rules of a program's levels: where they stand in the game, that their atoms stand in their level's base, and
 -- their form.
-use Rattle.std.proofs.Common.{ℕ, zero, suc, ◌≡◌, ◌+◌, ◌-◌, ◌<◌, ◌≤◌, ◌⊎◌, refl, ◌∙◌, ap, inl, inr, Bool, true, false, List, [], ◌∷◌, ◌++◌, map, take, length, length-append, get_or, arith, Option, Some, None}
+use Rattle.std.proofs.Common.{ℕ, zero, suc, ◌≡◌, ◌+◌, ◌-◌, ◌<◌, ◌≤◌, ◌⊎◌, refl, ◌∙◌, ap, inl, inr, Bool, true, false, List, [], ◌∷◌, ◌++◌, map, take, length, get_or, arith, Option, Some, None}
 use Rattle.std.specs.Prelude.{is_none}
 use Rattle.std.specs.List.{flat_map, list_all, enumerate_from}
 use Rattle.std.proofs.lemmas.List.{length-map, get_or-map}
@@ -24,16 +24,12 @@ use Rattle.asp_check.specs.Condition.{has_intervals_in_facts}
 use Rattle.asp_atoms.proofs.Orders.{const_lawful, predicate_lawful}
 use Rattle.asp_atoms.proofs.Ascending.{distinct_from, flat_map_at, flat_map_in}
 use Rattle.asp_atoms.proofs.Positions.{get_in}
+use Rattle.asp_atoms.proofs.Counting.{levels_long}
 use Rattle.asp_ground.proofs.BaseAtoms.{base_numbers}
 use Rattle.asp_ground.proofs.SchemaAtoms.{instance_is, instance_within}
 use Rattle.asp_ground.proofs.RuleSchemas.{Written, schema_known, instance_formed, instance_constraint}
 
 -- ---- levels
-
-pub levels_long : (p : Program) → length (level_rules p) ≡ last_level p
-levels_long p =
-    length-append (map (λ (part : Part). part.rules) p.levels) (p.cons ∷ [])
-    ∙ ap (λ n. n + 1) (length-map p.levels (λ (part : Part). part.rules))
 
 pub rules_long : (p : Program) → length (map (level_ground p) (enumerate_from 1 (level_rules p))) ≡ last_level p
 rules_long p =

@@ -1,57 +1,55 @@
 -- The game of a checked program is that of its compiled rules.
-use Rattle.std.proofs.Common.{ℕ, zero, suc, ◌≡◌, ◌<◌, ◌≤◌, ◌+◌, refl, sym, ◌∙◌, ap, subst, inl, inr, Bool, true, Option, Some, None, List, [], ◌∷◌, map, take, length, get_or, arith, zero-add, length-append, min, max, ◌^◌}
-use Rattle.std.specs.Prelude.{if◌then◌else◌, nat_lt, IsTrue, is_none}
+use Rattle.std.proofs.Common.{ℕ, suc, ◌≡◌, ◌<◌, ◌≤◌, ◌+◌, refl, sym, ◌∙◌, ap, subst, inl, inr, Bool, true, Option, Some, None, List, [], ◌∷◌, map, take, length, get_or, arith, zero-add, min, max}
+use Rattle.std.specs.Prelude.{if◌then◌else◌, IsTrue, is_none}
 use Rattle.std.specs.List.{flat_map, fold, enumerate_from}
 use Rattle.std.specs.Option.{option_or, option_map}
-use Rattle.std.proofs.lemmas.Bool.{ltb-false, le-ltb}
-use Rattle.std.proofs.lemmas.List.{length-map, get_or-map, take_all, map-id}
+use Rattle.std.proofs.lemmas.Bool.{cases_lt, lt-ltb, le-ltb}
+use Rattle.std.proofs.lemmas.List.{get_or-map, take_all, map-id}
 use Rattle.asp_defs.specs.declared.faults.Which.{Which}
 use Rattle.asp_defs.specs.declared.faults.Which.TheVariants as which
 use Rattle.asp_defs.specs.declared.faults.Var.{Var as ShownVariable}
 use Rattle.asp_defs.specs.declared.ground.Const.{Const}
 use Rattle.asp_defs.specs.declared.syntax.Term.{Term}
 use Rattle.asp_defs.specs.declared.syntax.Rule.{Rule}
-use Rattle.asp_defs.specs.declared.syntax.Part.{Part}
 use Rattle.asp_defs.specs.declared.syntax.Program.{Program}
 use Rattle.asp_defs.specs.Lists.{IsIn, numbers_from}
-use Rattle.asp_defs.specs.Constants.{const_cmp, rule_constants, level_rules, rules_to, universe}
+use Rattle.asp_defs.specs.Constants.{rule_constants, level_rules, rules_to, universe}
 use Rattle.asp_defs.specs.Bases.{Predicate, predicate_cmp, rule_predicates, predicates, base_atoms, last_level}
 use Rattle.asp_defs.specs.Instances.{rule_instances}
 use Rattle.asp_defs.specs.Games.{level_ground, game_of}
 use Rattle.asp_defs.specs.Safety.{all_rules, first_unsafe, first_unsafe_from, unsafe_in, shown_number, shown_variable}
 use Rattle.asp_defs.specs.Limits.{limit, past_limit, most_shown, variable_count, most_arguments, most_literals, most_variables, too_large_in}
-use Rattle.asp_defs.specs.Sizes.{constant_total, atom_total}
 use Rattle.asp_defs.specs.Checks.{CheckRefusal, UnsafeRule, PastLimit, safety_refusal, form_refusal, size_refusal, is_checked}
-use Rattle.asp_defs.proofs.Lists.{all_at, map_at, map_from, true_or_false}
+use Rattle.asp_defs.proofs.Lists.{all_at, map_at, map_from}
 use Rattle.asp_defs.proofs.TextRefutations.{clash}
 use Rattle.asp_check.specs.Condition.{IsCheckable, has_intervals_in_facts}
 use Rattle.asp_check.proofs.Members.{flat_at, flat_from}
-use Rattle.asp_atoms.specs.Vocabularies.{unnumbered, numbered_from, const_rank, vocabulary_of}
+use Rattle.asp_atoms.specs.Ascending.{Ascends}
+use Rattle.asp_atoms.specs.Vocabularies.{const_rank, vocabulary_of}
 use Rattle.asp_atoms.specs.Answers.{base_too_large}
+use Rattle.asp_atoms.proofs.Orders.{const_lawful, predicate_lawful}
+use Rattle.asp_atoms.proofs.Ascending.{ascends_distinct, in_distinct, distinct_from}
 use Rattle.asp_atoms.proofs.Assembling.{number_reads}
-use Rattle.asp_ground.specs.Ranks.{IsAscending, IsOrdered}
+use Rattle.asp_atoms.proofs.Choosing.{unnumbered_all}
+use Rattle.asp_atoms.proofs.Counting.{levels_long, within_limit, second_none}
+use Rattle.asp_atoms.proofs.Gathering.{few_constants, few_atoms}
+use Rattle.asp_atoms.proofs.Levels.{get_number, length_numbers}
+use Rattle.asp_ground.specs.Ranks.{IsOrdered}
 use Rattle.asp_ground.specs.Compiled.{compiled_instances, level_instances, compiled_levels}
-use Rattle.asp_ground.proofs.Orders.{const_total, const_equal, predicate_total, predicate_equal}
-use Rattle.asp_ground.proofs.Ascending.{by_part}
-use Rattle.asp_ground.proofs.Members.{distinct_is_ascending, in_distinct, from_distinct, in_take}
-use Rattle.asp_ground.proofs.Products.{flat_map_same, map_same, map_map}
+use Rattle.asp_ground.proofs.Members.{in_take}
+use Rattle.asp_atoms.proofs.Choosing.{flat_map_agrees}
+use Rattle.asp_atoms.proofs.Numbering.{map_agrees, map_map}
 use Rattle.asp_ground.proofs.Known.{Numbers}
 use Rattle.asp_ground.proofs.Numbers.{const_at, Stands, stands}
-use Rattle.asp_ground.proofs.FactInstances.{length-numbers_from}
 use Rattle.asp_ground.proofs.RuleInstances.{KnownRule, Ranked, rule_is}
 
 -- ---- the vocabulary ascends
 
-unnumbered_are : (size first : ℕ) (qs : List Predicate) → map unnumbered (numbered_from size first qs) ≡ qs
-unnumbered_are size first [] = refl
-unnumbered_are size first (q ∷ qs) = ap (λ (ps : List Predicate). q ∷ ps) (unnumbered_are size (first + size ^ q.arity) qs)
-
 pub vocabulary_is_ordered : (p : Program) → IsOrdered (vocabulary_of p)
 vocabulary_is_ordered p = record {
-  constants = distinct_is_ascending const_cmp const_total (flat_map rule_constants (rules_to p (last_level p)));
-  predicates = by_part predicate_cmp unnumbered (vocabulary_of p).predicates
-      (subst (λ (qs : List Predicate). IsAscending predicate_cmp qs) (sym (unnumbered_are (length (vocabulary_of p).constants) 0 (predicates p (last_level p))))
-      (distinct_is_ascending predicate_cmp predicate_total (flat_map rule_predicates (rules_to p (last_level p)))));
+  constants = ascends_distinct const_lawful (flat_map rule_constants (rules_to p (last_level p)));
+  predicates = subst (λ (qs : List Predicate). Ascends predicate_cmp qs) (sym (unnumbered_all (length (vocabulary_of p).constants) 0 (predicates p (last_level p))))
+      (ascends_distinct predicate_lawful (flat_map rule_predicates (rules_to p (last_level p))));
 }
 
 -- ---- limits
@@ -62,33 +60,29 @@ limited past w count = if past then Some (w, min count most_shown) else None
 some_is_none : {A : Type 0} (x : A) → Some x ≡ None → ⊥
 some_is_none x e = clash (ap is_none e)
 
-within_limit : (w : Which) (count : ℕ) → past_limit w count ≡ None → count ≤ limit w
-within_limit w count e = elim (true_or_false (nat_lt (limit w) count)) [
-  | inl past ↦ let shown : Which × ℕ = (w, min count most_shown) in absurd (some_is_none shown (sym (ap (λ b. limited b w count) past) ∙ e))
-  | inr within ↦ ltb-false (limit w) count within
-]
-
 pub limit_kept : (w : Which) (count : ℕ) → count ≤ limit w → past_limit w count ≡ None
 limit_kept w count h = ap (λ b. limited b w count) (le-ltb (limit w) count h)
+
+-- a count that is cut off above the limit passes it as the whole one does
+pub past_cut : (count shown : ℕ) → shown ≡ min count most_shown → past_limit which.Instances shown ≡ past_limit which.Instances count
+past_cut count shown e = elim (cases_lt 4000000 count) [
+  | inl past ↦
+      let same : min shown most_shown ≡ min count most_shown = omega (arith, e) in
+      ap (λ b. limited b which.Instances shown) (lt-ltb 4000000 shown (omega (arith, e, past)))
+      ∙ (ap (λ n. Some (which.Instances, n)) same ∙ sym (ap (λ b. limited b which.Instances count) (lt-ltb 4000000 count past)))
+  | inr within ↦
+      limit_kept which.Instances shown (omega (arith, e, within)) ∙ sym (limit_kept which.Instances count within)
+]
 
 record Small (p : Program) : Type 0 where
   constants : length (vocabulary_of p).constants ≤ 4294967295
   atoms : length (base_atoms p (last_level p)) ≤ 4294967295
 
-either_none : {A : Type 0} (a b : Option A) → option_or a b ≡ None → (a ≡ None) × (b ≡ None)
-either_none None b e = (refl, e)
-either_none (Some x) b e = absurd (cc)
-
 small : (p : Program) → base_too_large p ≡ None → Small p
 small p e =
-    let parts = either_none (past_limit which.Constants (constant_total p)) (past_limit which.Atoms (atom_total p)) e in
-    let few : constant_total p ≤ limit which.Constants = within_limit which.Constants (constant_total p) parts.0 in
-    let more : atom_total p ≤ limit which.Atoms = within_limit which.Atoms (atom_total p) parts.1 in
+    let few = few_constants p e in
+    let more = few_atoms p e in
     record { constants = omega (arith, few); atoms = omega (arith, more) }
-
-pub small_constants : (p : Program) → base_too_large p ≡ None → constant_total p ≤ 4096
-small_constants p e =
-    within_limit which.Constants (constant_total p) (either_none (past_limit which.Constants (constant_total p)) (past_limit which.Atoms (atom_total p)) e).0
 
 numbers_of : (p : Program) → base_too_large p ≡ None → Numbers (base_atoms p (last_level p)) (vocabulary_of p)
 numbers_of p e =
@@ -97,23 +91,19 @@ numbers_of p e =
 
 -- ---- the rules of a checked program
 
-level_count : (p : Program) → length (level_rules p) ≡ last_level p
-level_count p =
-    length-append (map (λ (part : Part). part.rules) p.levels) (p.cons ∷ []) ∙ ap (λ n. n + 1) (length-map p.levels (λ (part : Part). part.rules))
-
 all_levels : (p : Program) → rules_to p (last_level p) ≡ all_rules p
 all_levels p =
-    let count = level_count p in
+    let count = levels_long p in
     ap (flat_map (λ (rules : List Rule). rules)) (take_all (last_level p) (level_rules p) (omega (arith, count)))
 
 pub constant_known : (p : Program) (r : Rule) (c : Const) → IsIn r (all_rules p) → IsIn c (rule_constants r) → IsIn c (universe p (last_level p))
 constant_known p r c i j =
-    in_distinct const_cmp const_equal (flat_map rule_constants (rules_to p (last_level p))) c
+    distinct_from const_lawful (flat_map rule_constants (rules_to p (last_level p))) c
     (subst (λ (rules : List Rule). IsIn c (flat_map rule_constants rules)) (sym (all_levels p)) (flat_from rule_constants (all_rules p) r c i j))
 
 predicate_known : (p : Program) (r : Rule) (q : Predicate) → IsIn r (all_rules p) → IsIn q (rule_predicates r) → IsIn q (predicates p (last_level p))
 predicate_known p r q i j =
-    in_distinct predicate_cmp predicate_equal (flat_map rule_predicates (rules_to p (last_level p))) q
+    distinct_from predicate_lawful (flat_map rule_predicates (rules_to p (last_level p))) q
     (subst (λ (rules : List Rule). IsIn q (flat_map rule_predicates rules)) (sym (all_levels p)) (flat_from rule_predicates (all_rules p) r q i j))
 
 -- each rule of a safe list is safe
@@ -157,10 +147,10 @@ none_large (Some f) h = clash h
 few_variables : (p : Program) → IsTrue (is_checked p) → (r : Rule) → IsIn r (all_rules p) → variable_count r ≤ 16
 few_variables p checked r i =
     let none = none_large (too_large_in p) (none_behind (form_refusal p) (size_refusal p) (none_behind (safety_refusal p) (option_or (form_refusal p) (size_refusal p)) checked)) in
-    let first = either_none (past_limit which.Levels (length p.levels)) (option_or (past_limit which.Arguments (most_arguments p)) (option_or (past_limit which.Literals (most_literals p)) (past_limit which.Variables (most_variables p)))) none in
-    let second = either_none (past_limit which.Arguments (most_arguments p)) (option_or (past_limit which.Literals (most_literals p)) (past_limit which.Variables (most_variables p))) first.1 in
-    let third = either_none (past_limit which.Literals (most_literals p)) (past_limit which.Variables (most_variables p)) second.1 in
-    let most : most_variables p ≤ 16 = within_limit which.Variables (most_variables p) third.1 in
+    let first = second_none (past_limit which.Levels (length p.levels)) (option_or (past_limit which.Arguments (most_arguments p)) (option_or (past_limit which.Literals (most_literals p)) (past_limit which.Variables (most_variables p)))) none in
+    let second = second_none (past_limit which.Arguments (most_arguments p)) (option_or (past_limit which.Literals (most_literals p)) (past_limit which.Variables (most_variables p))) first in
+    let third = second_none (past_limit which.Literals (most_literals p)) (past_limit which.Variables (most_variables p)) second in
+    let most : most_variables p ≤ 16 = within_limit which.Variables (most_variables p) third in
     let here : variable_count r ≤ most_variables p = most_is 0 (map variable_count (all_rules p)) (variable_count r) (map_from variable_count (all_rules p) r i) in
     omega (arith, most, here)
 
@@ -168,7 +158,7 @@ pub rule_known : (p : Program) → IsTrue (is_checked p) → IsCheckable p → (
 rule_known p checked checkable r i = record {
   constants = λ c j. constant_known p r c i j;
   predicates = λ q j.
-      subst (λ (qs : List Predicate). IsIn q qs) (sym (unnumbered_are (length (vocabulary_of p).constants) 0 (predicates p (last_level p))))
+      subst (λ (qs : List Predicate). IsIn q qs) (sym (unnumbered_all (length (vocabulary_of p).constants) 0 (predicates p (last_level p))))
       (predicate_known p r q i j);
   intervals = all_at has_intervals_in_facts (all_rules p) r checkable.intervals i;
   safe = safe_each 1 (all_rules p) (none_found (unsafe_in p) (option_or (form_refusal p) (size_refusal p)) checked) r i;
@@ -177,17 +167,11 @@ rule_known p checked checkable r i = record {
 
 -- ---- universes
 
-at_number : (k n i : ℕ) → i < n → get_or (numbers_from k n) i 0 ≡ k + i
-at_number k zero i h = absurd (omega arith)
-at_number k (suc n) zero h = omega arith
-at_number k (suc n) (suc i) h =
-    let rest = at_number (suc k) n i (omega arith) in omega (arith, rest)
-
 universe_at : (p : Program) (i : ℕ) → i < last_level p + 1 → get_or (vocabulary_of p).universes i [] ≡ map (const_rank (vocabulary_of p).constants) (universe p i)
 universe_at p i h =
-    let count = length-numbers_from 0 (last_level p + 1) in
+    let count = length_numbers 0 (last_level p + 1) in
     get_or-map (λ j. map (const_rank (vocabulary_of p).constants) (universe p j)) (numbers_from 0 (last_level p + 1)) i 0 [] (omega (arith, count))
-    ∙ ap (λ j. map (const_rank (vocabulary_of p).constants) (universe p j)) (at_number 0 (last_level p + 1) i h ∙ zero-add i)
+    ∙ ap (λ j. map (const_rank (vocabulary_of p).constants) (universe p j)) (get_number 0 (last_level p + 1) i 0 h ∙ zero-add i)
 
 rule_to : (p : Program) (i : ℕ) (r : Rule) → IsIn r (rules_to p i) → IsIn r (all_rules p)
 rule_to p i r h =
@@ -196,7 +180,7 @@ rule_to p i r h =
 
 member_known : (p : Program) (i : ℕ) (c : Const) → IsIn c (universe p i) → IsIn c (vocabulary_of p).constants
 member_known p i c h =
-    let written = from_distinct const_cmp (flat_map rule_constants (rules_to p i)) c h in
+    let written = in_distinct const_lawful (flat_map rule_constants (rules_to p i)) c h in
     let found = flat_at rule_constants (rules_to p i) c written in
     constant_known p found.0 c (rule_to p i found.0 found.1) found.2
 
@@ -207,7 +191,7 @@ ranked_at : (p : Program) (i : ℕ) → i < last_level p + 1 → Ranked (vocabul
 ranked_at p i h = record {
   same = sym (ap (map (const_at (vocabulary_of p).constants)) (universe_at p i h)
       ∙ (map_map (const_at (vocabulary_of p).constants) (const_rank (vocabulary_of p).constants) (universe p i)
-      ∙ (map_same (λ c. const_at (vocabulary_of p).constants (const_rank (vocabulary_of p).constants c)) (λ c. c) (universe p i) (λ c j. (member_stands p i c j).here)
+      ∙ (map_agrees (λ c. const_at (vocabulary_of p).constants (const_rank (vocabulary_of p).constants c)) (λ c. c) (universe p i) (λ c j. (member_stands p i c j).here)
       ∙ map-id (universe p i))));
   below = λ rank j.
       let found = map_at (const_rank (vocabulary_of p).constants) (universe p i) rank (subst (λ (rs : List ℕ). IsIn rank rs) (universe_at p i h) j) in
@@ -235,13 +219,13 @@ placed k (rules ∷ levels) level (inr i) =
 level_is : (p : Program) (level : ℕ × List Rule) → IsTrue (is_checked p) → IsCheckable p → base_too_large p ≡ None → IsIn level (enumerate_from 1 (level_rules p)) → level_instances (vocabulary_of p) level ≡ level_ground p level
 level_is p level checked checkable e i =
     let place = placed 1 (level_rules p) level i in
-    let count = level_count p in
+    let count = levels_long p in
     let high = place.high in
     let within : level.0 < last_level p + 1 = omega (arith, count, high) in
-    flat_map_same (compiled_instances (vocabulary_of p) (get_or (vocabulary_of p).universes level.0 [])) (rule_instances (base_atoms p (last_level p)) (universe p level.0)) level.1
+    flat_map_agrees (compiled_instances (vocabulary_of p) (get_or (vocabulary_of p).universes level.0 [])) (rule_instances (base_atoms p (last_level p)) (universe p level.0)) level.1
     (λ r j. sym (rule_is (base_atoms p (last_level p)) (vocabulary_of p) (universe p level.0) (get_or (vocabulary_of p).universes level.0 []) r (numbers_of p e) (ranked_at p level.0 within)
     (rule_known p checked checkable r (flat_from (λ (rules : List Rule). rules) (level_rules p) level.1 r place.member j))))
 
 pub levels_are : (p : Program) → IsTrue (is_checked p) → IsCheckable p → base_too_large p ≡ None → compiled_levels (vocabulary_of p) p ≡ (game_of p).rules
 levels_are p checked checkable e =
-    map_same (level_instances (vocabulary_of p)) (level_ground p) (enumerate_from 1 (level_rules p)) (λ level i. level_is p level checked checkable e i)
+    map_agrees (level_instances (vocabulary_of p)) (level_ground p) (enumerate_from 1 (level_rules p)) (λ level i. level_is p level checked checkable e i)

@@ -1,10 +1,10 @@
-pub mod Orders
-pub mod Ascending
+pub mod Parts
 pub mod Members
 pub mod Digits
 pub mod Products
 pub mod Steps
 pub mod Integers
+pub mod Rows
 pub mod Templates
 pub mod Gathered
 pub mod Occurrences

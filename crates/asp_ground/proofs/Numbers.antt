@@ -1,9 +1,10 @@
 -- The numbers of atoms and the truth of comparisons under ranks are those under the constants with these ranks.
-use Rattle.std.proofs.Common.{ℕ, ◌≡◌, ◌<◌, ◌≤◌, ◌+◌, suc, true, false, not, cond, refl, sym, ◌∙◌, ap, subst, inl, inr, Bool, List, [], ◌∷◌, map, length, get_or, arith}
+use Rattle.std.proofs.Common.{ℕ, ◌≡◌, ◌<◌, ◌≤◌, ◌+◌, suc, true, false, not, cond, eqb, refl, sym, ◌∙◌, ap, subst, inl, inr, Bool, List, [], ◌∷◌, map, length, get_or, arith}
 use Rattle.std.specs.List.{position_or_len, fold}
 use Rattle.std.specs.Ordering.{is_eq, nat_cmp}
-use Rattle.std.specs.declared.cmp.Ordering.TheVariants.{Equal}
-use Rattle.std.proofs.lemmas.Cmp.{tied_itself}
+use Rattle.std.specs.declared.cmp.Ordering.TheVariants.{Less, Equal, Greater}
+use Rattle.std.proofs.lemmas.Bool.{cases_order, lt-ltb}
+use Rattle.std.proofs.lemmas.Cmp.{nat_cmp_total, tied_itself}
 use Rattle.std.proofs.lemmas.List.{length-map, get_or-map}
 use Rattle.asp_defs.specs.declared.ground.Const.{Const}
 use Rattle.asp_defs.specs.declared.ground.Const.TheVariants as const
@@ -20,46 +21,39 @@ use Rattle.asp_defs.proofs.Lists.{map_at}
 use Rattle.asp_atoms.specs.declared.vocabularies.NumberedPredicate.{NumberedPredicate}
 use Rattle.asp_atoms.specs.declared.vocabularies.Vocabulary.{Vocabulary}
 use Rattle.asp_ground.specs.declared.template.Slot.{Slot}
+use Rattle.asp_atoms.specs.Ascending.{Ascends}
 use Rattle.asp_atoms.specs.Vocabularies.{const_rank, unnumbered}
-use Rattle.asp_ground.specs.Ranks.{IsAscending, capped, rank_of, predicate_place, first_of}
+use Rattle.asp_atoms.proofs.Orders.{nat_lawful, const_lawful, predicate_lawful}
+use Rattle.asp_atoms.proofs.Ascending.{turned_back}
+use Rattle.asp_atoms.proofs.Positions.{get_in, ascends_at, place_at, place_of, place_below, at_place, stands as stands_at}
+use Rattle.asp_ground.specs.Ranks.{capped, rank_of, predicate_place, first_of}
 use Rattle.asp_ground.specs.Templates.{slot_rank, number_at, with_digit}
 use Rattle.asp_ground.specs.Compiled.{slot_of, atom_template}
-use Rattle.asp_ground.proofs.Orders.{const_total, predicate_total}
-use Rattle.asp_ground.proofs.Ascending.{found_at, place_in, in_place, order_at}
 use Rattle.asp_ground.proofs.Digits.{read, read_capped}
-use Rattle.asp_ground.proofs.Products.{map_same, map_map}
+use Rattle.asp_atoms.proofs.Numbering.{map_agrees, map_map}
 use Rattle.asp_ground.proofs.Known.{Numbers, make_ground, KnownTerm, KnownAtom}
 
 -- the constant with a rank
 abbrev pub const_at : List Const → ℕ → Const
 const_at constants rank = get_or constants rank (const.Sym [])
 
--- a rank is the place of its constant
-pub place_at : (constants : List Const) (rank : ℕ) → IsAscending const_cmp constants → rank < length constants → const_rank constants (const_at constants rank) ≡ rank
-place_at constants rank up h =
-    found_at const_cmp (λ c. c) (const_at constants rank) constants rank (const.Sym []) const_total up h (tied_itself const_total (const_at constants rank))
-
 -- a member stands at its place
 pub record Stands (constants : List Const) (c : Const) : Type 0 where
   pub inside : const_rank constants c < length constants
   pub here : const_at constants (const_rank constants c) ≡ c
 
-pub stands : (constants : List Const) (c : Const) → IsAscending const_cmp constants → IsIn c constants → Stands constants c
-stands constants c up i =
-    let found = place_in constants c (const.Sym []) i in
-    let place : const_rank constants c ≡ found.0 =
-    ap (const_rank constants) (sym found.2) ∙ place_at constants found.0 up found.1 in
-    record {
-      inside = subst (λ n. n < length constants) (sym place) found.1;
-      here = ap (const_at constants) place ∙ found.2;
-    }
+pub stands : (constants : List Const) (c : Const) → Ascends const_cmp constants → IsIn c constants → Stands constants c
+stands constants c up i = record {
+  inside = place_below const_lawful constants up c i;
+  here = at_place const_lawful constants up c (const.Sym []) i;
+}
 
 -- what a slot stands for is the value of its term
 pub record Valued (v : Vocabulary) (variables : List Term) (ranks : List ℕ) (t : Term) : Type 0 where
   pub inside : slot_rank ranks (slot_of v.constants variables t) < length v.constants
   pub value : term_value variables (map (const_at v.constants) ranks) t ≡ const_at v.constants (slot_rank ranks (slot_of v.constants variables t))
 
-constant_valued : (v : Vocabulary) (c : Const) → IsAscending const_cmp v.constants → length v.constants ≤ 4294967295 → IsIn c v.constants → (rank_of v.constants c < length v.constants) × (c ≡ const_at v.constants (rank_of v.constants c))
+constant_valued : (v : Vocabulary) (c : Const) → Ascends const_cmp v.constants → length v.constants ≤ 4294967295 → IsIn c v.constants → (rank_of v.constants c < length v.constants) × (c ≡ const_at v.constants (rank_of v.constants c))
 constant_valued v c up few i =
     let s = stands v.constants c up i in
     let inside = s.inside in
@@ -69,9 +63,9 @@ constant_valued v c up few i =
 variable_valued : (v : Vocabulary) (place count : ℕ) (ranks : List ℕ) → place < count → length ranks ≡ count → ((rank : ℕ) → IsIn rank ranks → rank < length v.constants) → (get_or ranks place 0 < length v.constants) × (get_or (map (const_at v.constants) ranks) place (const.Sym []) ≡ const_at v.constants (get_or ranks place 0))
 variable_valued v place count ranks h same below =
     let inside : place < length ranks = omega (arith, h, same) in
-    (below (get_or ranks place 0) (in_place ranks place 0 inside), get_or-map (const_at v.constants) ranks place 0 (const.Sym []) inside)
+    (below (get_or ranks place 0) (get_in ranks place 0 inside), get_or-map (const_at v.constants) ranks place 0 (const.Sym []) inside)
 
-pub valued : (v : Vocabulary) (variables : List Term) (ranks : List ℕ) (t : Term) → IsAscending const_cmp v.constants → length v.constants ≤ 4294967295 → length ranks ≡ length variables → ((rank : ℕ) → IsIn rank ranks → rank < length v.constants) → KnownTerm v variables t → Valued v variables ranks t
+pub valued : (v : Vocabulary) (variables : List Term) (ranks : List ℕ) (t : Term) → Ascends const_cmp v.constants → length v.constants ≤ 4294967295 → length ranks ≡ length variables → ((rank : ℕ) → IsIn rank ranks → rank < length v.constants) → KnownTerm v variables t → Valued v variables ranks t
 valued v variables ranks (Int x) up few same below known =
     let c = constant_valued v (const.Int x) up few known in record { inside = c.0; value = c.1 }
 valued v variables ranks (Sym s) up few same below known =
@@ -86,21 +80,39 @@ valued v variables ranks (Range low high) up few same below known = absurd known
 
 -- ---- comparisons
 
-pub compared : (v : Vocabulary) (op : Op) (i j : ℕ) → IsAscending const_cmp v.constants → i < length v.constants → j < length v.constants → op_holds op (const_cmp (const_at v.constants i) (const_at v.constants j)) ≡ op_holds op (nat_cmp i j)
-compared v op i j up h l = ap (op_holds op) (order_at const_cmp (λ c. c) v.constants i j (const.Sym []) const_total up h l)
+nat_less : (m n : ℕ) → m < n → nat_cmp m n ≡ Less
+nat_less m n h = ap (λ b. cond b Less (cond (eqb m n) Equal Greater)) (lt-ltb m n h)
+
+-- constants compare as their places do
+order_at : (constants : List Const) (i j : ℕ) → Ascends const_cmp constants → i < length constants → j < length constants → const_cmp (const_at constants i) (const_at constants j) ≡ nat_cmp i j
+order_at constants i j up h l = elim (cases_order i j) [
+  | inl e ↦
+      subst (λ n. const_cmp (const_at constants i) (const_at constants n) ≡ nat_cmp i n) e
+      (tied_itself const_lawful.total (const_at constants i) ∙ sym (tied_itself nat_cmp_total i))
+  | inr c ↦ elim c [
+    | inl before ↦ ascends_at const_cmp constants up i j (const.Sym []) before l ∙ sym (nat_less i j before)
+    | inr after ↦
+        turned_back const_lawful (const_at constants j) (const_at constants i) (ascends_at const_cmp constants up j i (const.Sym []) after h)
+        ∙ sym (turned_back nat_lawful j i (nat_less j i after))
+  ]
+]
+
+pub compared : (v : Vocabulary) (op : Op) (i j : ℕ) → Ascends const_cmp v.constants → i < length v.constants → j < length v.constants → op_holds op (const_cmp (const_at v.constants i) (const_at v.constants j)) ≡ op_holds op (nat_cmp i j)
+compared v op i j up h l = ap (op_holds op) (order_at v.constants i j up h l)
 
 -- ---- predicates
 
 -- a predicate that is unnumbered by a numbered one stands there
-pub first_is : (v : Vocabulary) (q : NumberedPredicate) → IsAscending (λ x y. predicate_cmp (unnumbered x) (unnumbered y)) v.predicates → IsIn q v.predicates → first_of v.predicates (unnumbered q) ≡ q.first
+pub first_is : (v : Vocabulary) (q : NumberedPredicate) → Ascends predicate_cmp (map unnumbered v.predicates) → IsIn q v.predicates → first_of v.predicates (unnumbered q) ≡ q.first
 first_is v q up i =
-    let found = place_in v.predicates q q i in
-    let tied : predicate_cmp (unnumbered q) (unnumbered (get_or v.predicates found.0 q)) ≡ Equal =
-    subst (λ (r : NumberedPredicate). predicate_cmp (unnumbered q) (unnumbered r) ≡ Equal) (sym found.2) (tied_itself predicate_total (unnumbered q)) in
-    let place : predicate_place v.predicates (unnumbered q) ≡ found.0 =
-    found_at predicate_cmp unnumbered (unnumbered q) v.predicates found.0 q predicate_total up found.1 tied in
+    let found = stands_at v.predicates q i in
+    let within = found.below in
+    let long = length-map v.predicates unnumbered in
+    let place : predicate_place v.predicates (unnumbered q) ≡ found.at =
+    place_of predicate_lawful (map unnumbered v.predicates) up (unnumbered q) found.at (omega (arith, within, long))
+    (λ d. get_or-map unnumbered v.predicates found.at q d found.below ∙ ap unnumbered (found.is q)) in
     ap (λ n. get_or (map (λ (r : NumberedPredicate). r.first) v.predicates) n 0) place
-    ∙ (get_or-map (λ (r : NumberedPredicate). r.first) v.predicates found.0 q 0 found.1 ∙ ap (λ (r : NumberedPredicate). r.first) found.2)
+    ∙ (get_or-map (λ (r : NumberedPredicate). r.first) v.predicates found.at q 0 found.below ∙ ap (λ (r : NumberedPredicate). r.first) (found.is q))
 
 -- ---- atoms
 
@@ -115,16 +127,16 @@ position_few p (x ∷ xs) =
     cond_few false m n h = omega arith
 
 -- the constants with ranks have these ranks
-places_at : (constants : List Const) (ranks : List ℕ) → IsAscending const_cmp constants → ((rank : ℕ) → IsIn rank ranks → rank < length constants) → map (const_rank constants) (map (const_at constants) ranks) ≡ ranks
+places_at : (constants : List Const) (ranks : List ℕ) → Ascends const_cmp constants → ((rank : ℕ) → IsIn rank ranks → rank < length constants) → map (const_rank constants) (map (const_at constants) ranks) ≡ ranks
 places_at constants [] up below = refl
 places_at constants (rank ∷ ranks) up below =
-    ap (λ r. r ∷ map (const_rank constants) (map (const_at constants) ranks)) (place_at constants rank up (below rank (inl refl)))
+    ap (λ r. r ∷ map (const_rank constants) (map (const_at constants) ranks)) (place_at const_lawful constants up rank (const.Sym []) (below rank (inl refl)))
     ∙ ap (λ rs. rank ∷ rs) (places_at constants ranks up (λ r i. below r (inr i)))
 
 consts_in : (constants : List Const) (ranks : List ℕ) → ((rank : ℕ) → IsIn rank ranks → rank < length constants) → (c : Const) → IsIn c (map (const_at constants) ranks) → IsIn c constants
 consts_in constants ranks below c i =
     let found = map_at (const_at constants) ranks c i in
-    subst (λ (d : Const). IsIn d constants) (sym found.2) (in_place constants found.0 (const.Sym []) (below found.0 found.1))
+    subst (λ (d : Const). IsIn d constants) (sym found.2) (get_in constants found.0 (const.Sym []) (below found.0 found.1))
 
 -- the number of an atom of a predicate whose arguments have ranks
 pub number_of_ranks : (atoms : List GroundAtom) (v : Vocabulary) (q : NumberedPredicate) (ranks : List ℕ) → Numbers atoms v → IsIn q v.predicates → length ranks ≡ q.arity → ((rank : ℕ) → IsIn rank ranks → rank < length v.constants) → atom_number atoms (make_ground q.name (map (const_at v.constants) ranks)) ≡ q.first + read (length v.constants) 0 ranks
@@ -168,7 +180,7 @@ atom_is atoms v variables ranks a n same below known =
     values =
         map_map (const_at v.constants) (slot_rank ranks) (map (slot_of v.constants variables) a.args)
         ∙ (map_map (λ s. const_at v.constants (slot_rank ranks s)) (slot_of v.constants variables) a.args
-        ∙ map_same (λ t. const_at v.constants (slot_rank ranks (slot_of v.constants variables t))) (term_value variables (map (const_at v.constants) ranks)) a.args (λ t i. sym (each t i).value))
+        ∙ map_agrees (λ t. const_at v.constants (slot_rank ranks (slot_of v.constants variables t))) (term_value variables (map (const_at v.constants) ranks)) a.args (λ t i. sym (each t i).value))
 
     small : (rank : ℕ) → IsIn rank (map (slot_rank ranks) (map (slot_of v.constants variables) a.args)) → rank < length v.constants
     small rank i =

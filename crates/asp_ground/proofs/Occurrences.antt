@@ -13,6 +13,7 @@ use Rattle.asp_defs.proofs.Lists.{any_at, any_from, filter_at, filter_from, true
 use Rattle.asp_defs.proofs.TextRefutations.{clash}
 use Rattle.asp_check.proofs.Members.{equal, same_truth}
 use Rattle.asp_check.proofs.Occurrences.{occurrences_more}
+use Rattle.asp_check.proofs.Occurrences.{others, same_back}
 use Rattle.asp_ground.specs.Variables.{with_variable}
 
 -- ---- variables of a list, each once
@@ -61,14 +62,6 @@ any_place p (x ∷ xs) h = elim (true_or_false (p x)) [
 abbrev Apart : List Term → Type 0
 Apart [] = Unit {0}
 Apart (x ∷ xs) = ((y : Term) → IsIn y xs → same_variable y x ≡ false) × Apart xs
-
-abbrev others : Term → List Term → List Term
-others x ws = filter (λ w. not (same_variable x w)) ws
-
-same_back : (v w : Term) → same_variable v w ≡ true → same_variable w v ≡ true
-same_back v w h =
-    let e = equal v w h in
-    subst (λ (z : Term). same_variable z v ≡ true) e (subst (λ (z : Term). same_variable v z ≡ true) (sym e) h)
 
 apart_back : (v w : Term) → same_variable v w ≡ false → same_variable w v ≡ false
 apart_back v w h = elim (true_or_false (same_variable w v)) [

@@ -5,25 +5,14 @@ use Rattle.std.proofs.lemmas.List.{map-append}
 use Rattle.asp_defs.specs.Lists.{IsIn}
 use Rattle.asp_defs.specs.Bases.{product}
 use Rattle.asp_defs.proofs.Lists.{map_at}
+use Rattle.asp_atoms.proofs.Choosing.{flat_map_agrees}
+use Rattle.asp_atoms.proofs.Numbering.{map_map}
 use Rattle.asp_check.proofs.Members.{flat_at}
 
 abbrev pub with_first : {A : Type 0} → List (List A) → A → List (List A)
 with_first rest x = map (λ tuple. x ∷ tuple) rest
 
--- ---- lists that are mapped or joined the same way
-
-pub flat_map_same : {A B : Type 0} (f g : A → List B) (xs : List A) → ((x : A) → IsIn x xs → f x ≡ g x) → flat_map f xs ≡ flat_map g xs
-flat_map_same f g [] h = refl
-flat_map_same f g (x ∷ xs) h =
-    ap (λ ys. ys ++ flat_map f xs) (h x (inl refl)) ∙ ap (λ ys. g x ++ ys) (flat_map_same f g xs (λ y i. h y (inr i)))
-
-pub map_same : {A B : Type 0} (f g : A → B) (xs : List A) → ((x : A) → IsIn x xs → f x ≡ g x) → map f xs ≡ map g xs
-map_same f g [] h = refl
-map_same f g (x ∷ xs) h = ap (λ y. y ∷ map f xs) (h x (inl refl)) ∙ ap (λ ys. g x ∷ ys) (map_same f g xs (λ y i. h y (inr i)))
-
-pub map_map : {A B C : Type 0} (f : B → C) (g : A → B) (xs : List A) → map f (map g xs) ≡ map (λ x. f (g x)) xs
-map_map f g [] = refl
-map_map f g (x ∷ xs) = ap (λ ys. f (g x) ∷ ys) (map_map f g xs)
+-- ---- lists that are mapped and joined
 
 pub flat_map_map : {A B C : Type 0} (f : B → List C) (g : A → B) (xs : List A) → flat_map f (map g xs) ≡ flat_map (λ x. f (g x)) xs
 flat_map_map f g [] = refl
@@ -52,7 +41,7 @@ pub product_map : {A B : Type 0} (f : A → B) (xss : List (List A)) → product
 product_map f [] = refl
 product_map f (xs ∷ xss) =
     flat_map_map (with_first (product (map (map f) xss))) f xs
-    ∙ (flat_map_same (λ x. with_first (product (map (map f) xss)) (f x)) (λ x. map (map f) (with_first (product xss) x)) xs (λ x i. first_map f (product (map (map f) xss)) (product xss) x (product_map f xss))
+    ∙ (flat_map_agrees (λ x. with_first (product (map (map f) xss)) (f x)) (λ x. map (map f) (with_first (product xss) x)) xs (λ x i. first_map f (product (map (map f) xss)) (product xss) x (product_map f xss))
     ∙ sym (map_flat_map (map f) (with_first (product xss)) xs))
 
 pub replicate_map : {A B : Type 0} (f : A → B) (n : ℕ) (x : A) → map f (replicate n x) ≡ replicate n (f x)

@@ -19,7 +19,7 @@ use Rattle.asp_defs.specs.declared.syntax.Rule.{Rule}
 use Rattle.asp_defs.specs.Lists.{IsIn}
 use Rattle.asp_defs.specs.Constants.{term_constants, atom_constants, literal_constants, element_constants, head_constants}
 use Rattle.asp_defs.specs.Bases.{Predicate, atom_predicate, literal_predicates, element_predicates, head_predicates}
-use Rattle.asp_defs.specs.Instances.{Schema, same_variable, term_variables, atom_variables, literal_variables, first_occurrences, disjunctive_schema, element_schema, head_schemas, instance, assignments, rule_instances}
+use Rattle.asp_defs.specs.Instances.{Schema, same_variable, term_variables, atom_variables, literal_variables, first_occurrences, disjunctive_schema, element_schema, head_schemas, rule_instances}
 use Rattle.asp_defs.specs.Safety.{is_variable_of, element_variables, rule_variables, unbound, first_unsafe}
 use Rattle.asp_defs.specs.Limits.{variable_count}
 use Rattle.asp_defs.proofs.Lists.{both, all_at, append_at, append_left, append_right, map_from, or_left}
@@ -27,10 +27,12 @@ use Rattle.asp_check.specs.Condition.{is_single, is_single_atom, is_single_liter
 use Rattle.asp_check.proofs.Members.{flat_at, flat_from}
 use Rattle.asp_atoms.specs.declared.vocabularies.Vocabulary.{Vocabulary}
 use Rattle.asp_atoms.specs.Vocabularies.{unnumbered}
+use Rattle.asp_ground.proofs.Parts.{make_rule, disjunctive_written, element_written, all_instances, suc_is_not, more_is_not}
 use Rattle.asp_ground.specs.Variables as found
 use Rattle.asp_ground.specs.Variables.{disjunctive_variables, found_disjunctive, found_element}
 use Rattle.asp_ground.specs.Compiled.{schema_instances, fact_instances, disjunctive_instances, compiled_instances}
-use Rattle.asp_ground.proofs.Products.{flat_map_same, flat_map_map}
+use Rattle.asp_atoms.proofs.Choosing.{flat_map_agrees}
+use Rattle.asp_ground.proofs.Products.{flat_map_map}
 use Rattle.asp_ground.proofs.Known.{Numbers, KnownTerm, KnownAtom, KnownLiteral, KnownSchema}
 use Rattle.asp_ground.proofs.Numbers.{const_at}
 use Rattle.asp_ground.proofs.Schemas.{schema_is}
@@ -85,9 +87,6 @@ pub record KnownParts (v : Vocabulary) (head : Head) (body : List Literal) : Typ
   pub predicates : (q : Predicate) → IsIn q (head_predicates head ++ flat_map literal_predicates body) → IsIn q (map unnumbered v.predicates)
   pub single : (is_single_head head ≡ true) × (list_all is_single_literal body ≡ true)
 
-abbrev disjunctive_written : List Atom → List Literal → List Term
-disjunctive_written atoms body = flat_map atom_variables atoms ++ flat_map literal_variables body
-
 disjunctive_known : (v : Vocabulary) (atoms : List Atom) (body : List Literal) → KnownParts v (Disj atoms) body → KnownSchema v (disjunctive_schema atoms body)
 disjunctive_known v atoms body known = record {
   heads = λ a i. known_atom v (disjunctive_written atoms body) a (record {
@@ -101,9 +100,6 @@ disjunctive_known v atoms body known = record {
   }) (λ q j. known.predicates q (append_right (map atom_predicate atoms) (flat_map literal_predicates body) q (flat_from literal_predicates body l q i j)))
       (all_at is_single_literal body l known.single.1 i);
 }
-
-abbrev element_written : List Literal → Element → List Term
-element_written body e = atom_variables e.atom ++ (flat_map literal_variables e.cond ++ flat_map literal_variables body)
 
 -- what is known of the literals of a body, beside an element
 record KnownBody (v : Vocabulary) (ws : List Term) (body : List Literal) : Type 0 where
@@ -163,21 +159,9 @@ pub record Ranked (v : Vocabulary) (U : List Const) (ranks : List ℕ) : Type 0 
   pub same : U ≡ map (const_at v.constants) ranks
   pub below : (rank : ℕ) → IsIn rank ranks → rank < length v.constants
 
-abbrev all_instances : List GroundAtom → List Const → Schema → List GroundRule
-all_instances atoms U s = flat_map (instance atoms s) (assignments U s)
-
 -- which of the two a disjunction gives
 abbrev either : Vocabulary → List ℕ → List Atom → List Literal → Atom → Bool → List GroundRule
 either v ranks heads body a is_one = if is_one then fact_instances v a else schema_instances v ranks (found_disjunctive heads body)
-
-suc_is_not : (n : ℕ) → suc n ≡ 0 → ⊥
-suc_is_not n e = absurd (omega arith)
-
-more_is_not : (n : ℕ) → suc (suc n) ≡ 1 → ⊥
-more_is_not n e = absurd (omega arith)
-
-abbrev pub make_rule : Head → List Literal → Rule
-make_rule head body = record { head = head; body = body }
 
 -- what is known of a rule of a checked program
 pub record KnownRule (v : Vocabulary) (head : Head) (body : List Literal) : Type 0 where
@@ -316,7 +300,7 @@ disjunctive_is atoms v U ranks (a ∷ b ∷ more) body n ranked known =
 choice_is : (atoms : List GroundAtom) (v : Vocabulary) (U : List Const) (ranks : List ℕ) (elements : List Element) (body : List Literal) → Numbers atoms v → Ranked v U ranks → KnownParts v (Choice elements) body → variable_count (make_rule (Choice elements) body) ≤ 16 → flat_map (all_instances atoms U) (head_schemas (Choice elements) body) ≡ flat_map (λ e. schema_instances v ranks (found_element body e)) elements
 choice_is atoms v U ranks elements body n ranked known few =
     flat_map_map (all_instances atoms U) (element_schema body) elements
-    ∙ flat_map_same (λ e. all_instances atoms U (element_schema body e)) (λ e. schema_instances v ranks (found_element body e)) elements
+    ∙ flat_map_agrees (λ e. all_instances atoms U (element_schema body e)) (λ e. schema_instances v ranks (found_element body e)) elements
     (λ e i. schema_is atoms v (element_schema body e) U ranks n ranked.same ranked.below (element_known v elements body e i known)
     ∙ ap (λ vs. schema_instances v ranks (element_with body e vs)) (sym (element_found elements body e i few)))
 

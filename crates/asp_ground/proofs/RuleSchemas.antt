@@ -1,5 +1,5 @@
 -- What is known of the schemas of a rule: their atoms stand over what is written in the rule, and choices have one head.
-use Rattle.std.proofs.Common.{ℕ, ◌≡◌, refl, sym, ◌∙◌, ap, subst, inl, inr, Bool, true, not, ◌||◌, List, [], ◌∷◌, ◌++◌, map, length}
+use Rattle.std.proofs.Common.{◌≡◌, refl, sym, ◌∙◌, ap, subst, inl, inr, Bool, true, not, ◌||◌, List, [], ◌∷◌, ◌++◌, map, length}
 use Rattle.std.specs.Prelude.{◌==◌}
 use Rattle.std.specs.List.{flat_map, list_all}
 use Rattle.std.proofs.lemmas.List.{length-map}
@@ -13,7 +13,6 @@ use Rattle.asp_defs.specs.declared.syntax.Literal.{Literal}
 use Rattle.asp_defs.specs.declared.syntax.Element.{Element}
 use Rattle.asp_defs.specs.declared.syntax.Head.{Head}
 use Rattle.asp_defs.specs.declared.syntax.Head.TheVariants.{Disj, Choice}
-use Rattle.asp_defs.specs.declared.syntax.Rule.{Rule}
 use Rattle.asp_defs.specs.Lists.{IsIn}
 use Rattle.asp_defs.specs.Constants.{interval, term_constants, atom_constants, literal_constants, element_constants, head_constants}
 use Rattle.asp_defs.specs.Bases.{Predicate, atom_predicate, literal_predicates, element_predicates, head_predicates, atom_number, product}
@@ -24,12 +23,10 @@ use Rattle.asp_defs.proofs.Lists.{both, and_true, all_at, all_from, append_at, a
 use Rattle.asp_defs.proofs.TextRefutations.{clash}
 use Rattle.asp_check.specs.Condition.{is_single, is_single_atom, is_single_literal, is_single_element, is_single_head, has_intervals_in_facts}
 use Rattle.asp_atoms.proofs.Ascending.{flat_map_at, flat_map_in}
+use Rattle.asp_ground.proofs.Parts.{make_predicate, make_rule, with_args, disjunctive_written, element_written}
 use Rattle.asp_ground.proofs.Products.{tuple_length, tuple_member}
 use Rattle.asp_ground.proofs.Occurrences.{occurs}
 use Rattle.asp_ground.proofs.SchemaAtoms.{Part, KnownAtom, known_atom, body_known, KnownSchema, rule_under}
-
-abbrev pub rule_of : Head → List Literal → Rule
-rule_of head body = record { head = head; body = body }
 
 -- the constants and predicates of a part of a rule are known
 pub record Written (U : List Const) (Q : List Predicate) (cs : List Const) (qs : List Predicate) : Type 0 where
@@ -38,9 +35,6 @@ pub record Written (U : List Const) (Q : List Predicate) (cs : List Const) (qs :
 
 -- ---- disjunctions
 
-abbrev disjunctive_terms : List Atom → List Literal → List Term
-disjunctive_terms atoms body = flat_map atom_variables atoms ++ flat_map literal_variables body
-
 disjunctive_known : (U : List Const) (Q : List Predicate) (atoms : List Atom) (body : List Literal) → Written U Q (flat_map atom_constants atoms ++ flat_map literal_constants body) (map atom_predicate atoms ++ flat_map literal_predicates body) → list_all is_single_atom atoms ≡ true → list_all is_single_literal body ≡ true → KnownSchema U Q (disjunctive_schema atoms body)
 disjunctive_known U Q atoms body written heads rest = record {
   heads = λ a i. known_atom U Q vars a (atom_part a i) (all_at is_single_atom atoms a heads i);
@@ -48,29 +42,26 @@ disjunctive_known U Q atoms body written heads rest = record {
 }
   where
     vars : List Term
-    vars = first_occurrences (disjunctive_terms atoms body)
+    vars = first_occurrences (disjunctive_written atoms body)
 
-    atom_part : (a : Atom) → IsIn a atoms → Part U Q (first_occurrences (disjunctive_terms atoms body)) (atom_constants a) (atom_predicate a ∷ []) (atom_variables a)
+    atom_part : (a : Atom) → IsIn a atoms → Part U Q (first_occurrences (disjunctive_written atoms body)) (atom_constants a) (atom_predicate a ∷ []) (atom_variables a)
     atom_part a i = record {
       constants = λ c j. written.constants c (append_left (flat_map atom_constants atoms) (flat_map literal_constants body) c (flat_map_in atom_constants atoms a c i j));
       predicates = λ q j. elim j [
         | inl e ↦ subst (λ r. IsIn r Q) (sym e) (written.predicates (atom_predicate a) (append_left (map atom_predicate atoms) (flat_map literal_predicates body) (atom_predicate a) (map_from atom_predicate atoms a i)))
         | inr k ↦ absurd k
       ];
-      variables = λ w same j. occurs (disjunctive_terms atoms body) w same (append_left (flat_map atom_variables atoms) (flat_map literal_variables body) w (flat_map_in atom_variables atoms a w i j));
+      variables = λ w same j. occurs (disjunctive_written atoms body) w same (append_left (flat_map atom_variables atoms) (flat_map literal_variables body) w (flat_map_in atom_variables atoms a w i j));
     }
 
-    body_part : Part U Q (first_occurrences (disjunctive_terms atoms body)) (flat_map literal_constants body) (flat_map literal_predicates body) (flat_map literal_variables body)
+    body_part : Part U Q (first_occurrences (disjunctive_written atoms body)) (flat_map literal_constants body) (flat_map literal_predicates body) (flat_map literal_variables body)
     body_part = record {
       constants = λ c j. written.constants c (append_right (flat_map atom_constants atoms) (flat_map literal_constants body) c j);
       predicates = λ q j. written.predicates q (append_right (map atom_predicate atoms) (flat_map literal_predicates body) q j);
-      variables = λ w same j. occurs (disjunctive_terms atoms body) w same (append_right (flat_map atom_variables atoms) (flat_map literal_variables body) w j);
+      variables = λ w same j. occurs (disjunctive_written atoms body) w same (append_right (flat_map atom_variables atoms) (flat_map literal_variables body) w j);
     }
 
 -- ---- elements
-
-abbrev element_terms : List Literal → Element → List Term
-element_terms body e = atom_variables e.atom ++ (flat_map literal_variables e.cond ++ flat_map literal_variables body)
 
 element_known : (U : List Const) (Q : List Predicate) (elements : List Element) (body : List Literal) (e : Element) → IsIn e elements → Written U Q (flat_map element_constants elements ++ flat_map literal_constants body) (flat_map element_predicates elements ++ flat_map literal_predicates body) → is_single_element e ≡ true → list_all is_single_literal body ≡ true → KnownSchema U Q (element_schema body e)
 element_known U Q elements body e m written here rest = record {
@@ -85,7 +76,7 @@ element_known U Q elements body e m written here rest = record {
 }
   where
     vars : List Term
-    vars = first_occurrences (element_terms body e)
+    vars = first_occurrences (element_written body e)
 
     single : (is_single_atom e.atom ≡ true) × (list_all is_single_literal e.cond ≡ true)
     single = both (is_single_atom e.atom) (list_all is_single_literal e.cond) here
@@ -96,25 +87,25 @@ element_known U Q elements body e m written here rest = record {
     known_predicate : (q : Predicate) → IsIn q (atom_predicate e.atom ∷ flat_map literal_predicates e.cond) → IsIn q Q
     known_predicate q i = written.predicates q (append_left (flat_map element_predicates elements) (flat_map literal_predicates body) q (flat_map_in element_predicates elements e q m i))
 
-    atom_part : Part U Q (first_occurrences (element_terms body e)) (atom_constants e.atom) (atom_predicate e.atom ∷ []) (atom_variables e.atom)
+    atom_part : Part U Q (first_occurrences (element_written body e)) (atom_constants e.atom) (atom_predicate e.atom ∷ []) (atom_variables e.atom)
     atom_part = record {
       constants = λ c j. known_constant c (append_left (atom_constants e.atom) (flat_map literal_constants e.cond) c j);
       predicates = λ q j. known_predicate q (append_left (atom_predicate e.atom ∷ []) (flat_map literal_predicates e.cond) q j);
-      variables = λ w same j. occurs (element_terms body e) w same (append_left (atom_variables e.atom) (flat_map literal_variables e.cond ++ flat_map literal_variables body) w j);
+      variables = λ w same j. occurs (element_written body e) w same (append_left (atom_variables e.atom) (flat_map literal_variables e.cond ++ flat_map literal_variables body) w j);
     }
 
-    cond_part : Part U Q (first_occurrences (element_terms body e)) (flat_map literal_constants e.cond) (flat_map literal_predicates e.cond) (flat_map literal_variables e.cond)
+    cond_part : Part U Q (first_occurrences (element_written body e)) (flat_map literal_constants e.cond) (flat_map literal_predicates e.cond) (flat_map literal_variables e.cond)
     cond_part = record {
       constants = λ c j. known_constant c (append_right (atom_constants e.atom) (flat_map literal_constants e.cond) c j);
       predicates = λ q j. known_predicate q (inr j);
-      variables = λ w same j. occurs (element_terms body e) w same (append_right (atom_variables e.atom) (flat_map literal_variables e.cond ++ flat_map literal_variables body) w (append_left (flat_map literal_variables e.cond) (flat_map literal_variables body) w j));
+      variables = λ w same j. occurs (element_written body e) w same (append_right (atom_variables e.atom) (flat_map literal_variables e.cond ++ flat_map literal_variables body) w (append_left (flat_map literal_variables e.cond) (flat_map literal_variables body) w j));
     }
 
-    body_part : Part U Q (first_occurrences (element_terms body e)) (flat_map literal_constants body) (flat_map literal_predicates body) (flat_map literal_variables body)
+    body_part : Part U Q (first_occurrences (element_written body e)) (flat_map literal_constants body) (flat_map literal_predicates body) (flat_map literal_variables body)
     body_part = record {
       constants = λ c j. written.constants c (append_right (flat_map element_constants elements) (flat_map literal_constants body) c j);
       predicates = λ q j. written.predicates q (append_right (flat_map element_predicates elements) (flat_map literal_predicates body) q j);
-      variables = λ w same j. occurs (element_terms body e) w same (append_right (atom_variables e.atom) (flat_map literal_variables e.cond ++ flat_map literal_variables body) w (append_right (flat_map literal_variables e.cond) (flat_map literal_variables body) w j));
+      variables = λ w same j. occurs (element_written body e) w same (append_right (atom_variables e.atom) (flat_map literal_variables e.cond ++ flat_map literal_variables body) w (append_right (flat_map literal_variables e.cond) (flat_map literal_variables body) w j));
     }
 
 -- ---- facts with intervals
@@ -157,12 +148,6 @@ chosen_from a args m u i =
     let t = map_at term_choices a.args one.0 one.1 in
     (t.0, t.1, subst (λ us. IsIn u us) t.2 one.2)
 
-abbrev with_args : Atom → List Term → Atom
-with_args a args = record { name = a.name; args = args }
-
-abbrev predicate_of : List ℕ → ℕ → Predicate
-predicate_of name arity = record { name = name; arity = arity }
-
 fact_known : (U : List Const) (Q : List Predicate) (a : Atom) (args : List Term) → Written U Q (flat_map atom_constants (a ∷ []) ++ []) (map atom_predicate (a ∷ []) ++ []) → IsIn args (product (map term_choices a.args)) → KnownSchema U Q (disjunctive_schema (with_args a args ∷ []) [])
 fact_known U Q a args written m =
     disjunctive_known U Q (with_args a args ∷ []) [] (record { constants = constants; predicates = predicates })
@@ -184,11 +169,11 @@ fact_known U Q a args written m =
     predicates q (inr i) = absurd i
     predicates q (inl e) =
         let long : length args ≡ length a.args = tuple_length (map term_choices a.args) args m ∙ length-map a.args term_choices in
-        subst (λ r. IsIn r Q) (sym (e ∙ ap (predicate_of a.name) long)) (written.predicates (atom_predicate a) (inl refl))
+        subst (λ r. IsIn r Q) (sym (e ∙ ap (make_predicate a.name) long)) (written.predicates (atom_predicate a) (inl refl))
 
 -- ---- any rule
 
-pub schema_known : (U : List Const) (Q : List Predicate) (head : Head) (body : List Literal) → Written U Q (head_constants head ++ flat_map literal_constants body) (head_predicates head ++ flat_map literal_predicates body) → has_intervals_in_facts (rule_of head body) ≡ true → (s : Schema) → IsIn s (head_schemas head body) → KnownSchema U Q s
+pub schema_known : (U : List Const) (Q : List Predicate) (head : Head) (body : List Literal) → Written U Q (head_constants head ++ flat_map literal_constants body) (head_predicates head ++ flat_map literal_predicates body) → has_intervals_in_facts (make_rule head body) ≡ true → (s : Schema) → IsIn s (head_schemas head body) → KnownSchema U Q s
 schema_known U Q (Disj []) body written single s (inl e) =
     subst (λ x. KnownSchema U Q x) (sym e) (disjunctive_known U Q [] body written refl single)
 schema_known U Q (Disj []) body written single s (inr i) = absurd i

@@ -23,6 +23,7 @@ use Rattle.asp_defs.proofs.TextRefutations.{clash}
 use Rattle.asp_check.specs.Condition.{is_single, is_single_atom, is_single_literal}
 use Rattle.asp_atoms.proofs.Ascending.{flat_map_at, flat_map_in}
 use Rattle.asp_atoms.proofs.Positions.{get_in}
+use Rattle.asp_ground.proofs.Parts.{make_predicate}
 use Rattle.asp_ground.proofs.Products.{tuple_length, tuple_member, in_replicate}
 use Rattle.asp_ground.proofs.Occurrences.{itself_in, any_place}
 use Rattle.asp_ground.proofs.BaseAtoms.{base_from, base_numbers, within_from}
@@ -81,14 +82,11 @@ known_atom U Q vars a part single = record {
   };
 }
 
-abbrev predicate_of : List ℕ → ℕ → Predicate
-predicate_of name arity = record { name = name; arity = arity }
-
 pub atom_in : (p : Program) (i : ℕ) (vars : List Term) (values : List Const) (a : Atom) → IsIn values (product (replicate (length vars) (universe p i))) → KnownAtom (universe p i) (predicates p i) vars a → IsIn (atom_instance vars values a) (base_atoms p i)
 atom_in p i vars values a m known =
     let long : length (map (term_value vars values) a.args) ≡ length a.args = length-map a.args (term_value vars values) in
     base_from p i a.name (map (term_value vars values) a.args)
-    (subst (λ n. IsIn (predicate_of a.name n) (predicates p i)) (sym long) known.predicate)
+    (subst (λ n. IsIn (make_predicate a.name n) (predicates p i)) (sym long) known.predicate)
     (λ x j.
     let t = map_at (term_value vars values) a.args x j in
     subst (λ c. IsIn c (universe p i)) (sym t.2) (value_in (universe p i) vars values t.0 m (known.terms t.0 t.1)))

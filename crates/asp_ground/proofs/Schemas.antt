@@ -21,7 +21,9 @@ use Rattle.asp_atoms.specs.declared.vocabularies.Vocabulary.{Vocabulary}
 use Rattle.asp_ground.specs.Ranks.{capped}
 use Rattle.asp_ground.specs.Templates.{slot_rank, number_at, is_true, instance_at}
 use Rattle.asp_ground.specs.Compiled.{slot_of, atom_template, comparisons_of, template_of, schema_instances}
-use Rattle.asp_ground.proofs.Products.{flat_map_same, map_same, map_map, flat_map_map, product_map, replicate_map, in_replicate, tuple_length, tuple_member}
+use Rattle.asp_atoms.proofs.Choosing.{flat_map_agrees}
+use Rattle.asp_atoms.proofs.Numbering.{map_agrees, map_map}
+use Rattle.asp_ground.proofs.Products.{flat_map_map, product_map, replicate_map, in_replicate, tuple_length, tuple_member}
 use Rattle.asp_ground.proofs.Known.{Numbers, KnownTerm, KnownAtom, KnownLiteral, KnownSchema}
 use Rattle.asp_ground.proofs.Numbers.{const_at, valued, compared, atom_is}
 
@@ -55,7 +57,7 @@ comparisons_are atoms v variables ranks (Cmp x op y ∷ body) n fits known =
 
 atoms_are : (atoms : List GroundAtom) (v : Vocabulary) (variables : List Term) (ranks : List ℕ) (written : List Atom) → Numbers atoms v → Fits v variables ranks → ((a : Atom) → IsIn a written → KnownAtom v variables a) → map (λ (a : Atom). atom_number atoms (atom_instance variables (map (const_at v.constants) ranks) a)) written ≡ map (number_at (capped (length v.constants)) ranks) (map (atom_template v variables) written)
 atoms_are atoms v variables ranks written n fits known =
-    map_same (λ (a : Atom). atom_number atoms (atom_instance variables (map (const_at v.constants) ranks) a)) (λ (a : Atom). number_at (capped (length v.constants)) ranks (atom_template v variables a)) written (λ a i. sym (atom_is atoms v variables ranks a n fits.same fits.below (known a i)))
+    map_agrees (λ (a : Atom). atom_number atoms (atom_instance variables (map (const_at v.constants) ranks) a)) (λ (a : Atom). number_at (capped (length v.constants)) ranks (atom_template v variables a)) written (λ a i. sym (atom_is atoms v variables ranks a n fits.same fits.below (known a i)))
     ∙ sym (map_map (number_at (capped (length v.constants)) ranks) (atom_template v variables) written)
 
 known_pos : (v : Vocabulary) (variables : List Term) (body : List Literal) → ((l : Literal) → IsIn l body → KnownLiteral v variables l) → (a : Atom) → IsIn a (flat_map pos_atoms body) → KnownAtom v variables a
@@ -110,7 +112,7 @@ schema_is atoms v s U ranks n same below known =
     ∙ (ap (λ xss. flat_map (instance atoms s) (product xss)) (sym (replicate_map (map (const_at v.constants)) (length s.variables) ranks))
     ∙ (ap (flat_map (instance atoms s)) (product_map (const_at v.constants) (replicate (length s.variables) ranks))
     ∙ (flat_map_map (instance atoms s) (map (const_at v.constants)) (product (replicate (length s.variables) ranks))
-    ∙ flat_map_same (λ tuple. instance atoms s (map (const_at v.constants) tuple)) (instance_at (capped (length v.constants)) (template_of v s)) (product (replicate (length s.variables) ranks)) each)))
+    ∙ flat_map_agrees (λ tuple. instance atoms s (map (const_at v.constants) tuple)) (instance_at (capped (length v.constants)) (template_of v s)) (product (replicate (length s.variables) ranks)) each)))
   where
     fits : (tuple : List ℕ) → IsIn tuple (product (replicate (length s.variables) ranks)) → Fits v s.variables tuple
     fits tuple i = record {

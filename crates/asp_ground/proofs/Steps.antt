@@ -2,25 +2,29 @@
 use Rattle.std.proofs.Common.{ℕ, zero, suc, ◌≡◌, ◌<◌, ◌≤◌, ◌+◌, refl, sym, ◌∙◌, ap, subst, Bool, true, false, List, [], ◌∷◌, ◌++◌, map, take, length, get_or, arith, append_assoc, append-nil, zero-add}
 use Rattle.std.specs.List.{flat_map, fold, list_any, position_or_len, enumerate_from}
 use Rattle.std.proofs.lemmas.List.{take_more, take_all, get_or-map, length-map, length-take}
+use Rattle.std.proofs.lemmas.List.Sums.{position_or_len_is}
 use Rattle.asp_defs.specs.Lists.{numbers_from}
 use Rattle.asp_defs.specs.Bases.{product}
 use Rattle.asp_defs.proofs.Lists.{or_left, or_right}
-use Rattle.asp_ground.proofs.Ascending.{first_place, no_place}
-use Rattle.asp_ground.proofs.Products.{flat_map_same, flat_map_map, flat_map_append, flat_map_flat_map}
+use Rattle.asp_atoms.proofs.Choosing.{flat_map_agrees}
+use Rattle.asp_ground.proofs.Products.{flat_map_map, flat_map_append, flat_map_flat_map}
 
 -- ---- places in a list under a function
 
 pub mapped_place : {A B : Type 0} (f : A → B) (p : B → Bool) (xs : List A) (i : ℕ) (d : A) → i < length xs → p (f (get_or xs i d)) ≡ true → ((k : ℕ) (e : A) → k < i → p (f (get_or xs k e)) ≡ false) → position_or_len p (map f xs) ≡ i
 mapped_place {A} {B} f p xs i d h here before =
     let long = length-map xs f in
-    first_place p (map f xs) i (f d) (omega (arith, long)) (subst (λ (y : B). p y ≡ true) (sym (get_or-map f xs i d (f d) h)) here)
+    position_or_len_is p (map f xs) i (f d) (omega (arith, long))
     (λ k l. subst (λ (y : B). p y ≡ false) (sym (get_or-map f xs k d (f d) (omega arith))) (before k d l))
+    (λ l. subst (λ (y : B). p y ≡ true) (sym (get_or-map f xs i d (f d) h)) here)
 
 pub mapped_none : {A B : Type 0} (f : A → B) (p : B → Bool) (xs : List A) (n : ℕ) → length xs ≤ n → ((k : ℕ) (e : A) → k < n → p (f (get_or xs k e)) ≡ false) → position_or_len p (map f xs) ≡ length xs
 mapped_none f p [] n h none = refl
 mapped_none {A} {B} f p (x ∷ xs) n h none =
     let long = length-map (x ∷ xs) f in
-    no_place p (map f (x ∷ xs)) (f x) (λ k l. subst (λ (y : B). p y ≡ false) (sym (get_or-map f (x ∷ xs) k x (f x) (omega (arith, long)))) (none k x (omega (arith, long))))
+    position_or_len_is p (map f (x ∷ xs)) (length (map f (x ∷ xs))) (f x) (omega arith)
+    (λ k l. subst (λ (y : B). p y ≡ false) (sym (get_or-map f (x ∷ xs) k x (f x) (omega (arith, long)))) (none k x (omega (arith, long))))
+    (λ l. absurd (omega arith))
     ∙ long
 
 pub mapped_any : {A B : Type 0} (f : A → B) (p : B → Bool) (xs : List A) (i : ℕ) (d : A) → i < length xs → p (f (get_or xs i d)) ≡ true → list_any p (map f xs) ≡ true
@@ -57,7 +61,7 @@ two_adds_mapped g f start middle end xs ys first second third =
     ∙ (ap (λ zs. zs ++ map g (flat_map f ys)) (second ∙ ap (λ zs. zs ++ map g (flat_map f xs)) first)
     ∙ (sym (map_append g (flat_map f xs) (flat_map f ys)) ∙ ap (map g) (sym (flat_map_append f xs ys))))
 
-fold_append : {A B : Type 0} (f : B → A → B) (b : B) (xs ys : List A) → fold f b (xs ++ ys) ≡ fold f (fold f b xs) ys
+pub fold_append : {A B : Type 0} (f : B → A → B) (b : B) (xs ys : List A) → fold f b (xs ++ ys) ≡ fold f (fold f b xs) ys
 fold_append f b [] ys = refl
 fold_append f b (x ∷ xs) ys = fold_append f (f b x) xs ys
 
@@ -122,8 +126,8 @@ level_last f g xs last i now next y h so_far added made =
 
 pub odometer : {A B : Type 0} (f : List A → List B) (front : List A) (first : List A) (rest : List (List A)) → flat_map (λ x. flat_map (λ tuple. f ((front ++ x ∷ []) ++ tuple)) (product rest)) first ≡ flat_map (λ tuple. f (front ++ tuple)) (product (first ∷ rest))
 odometer {A} f front first rest =
-    flat_map_same (λ x. flat_map (λ tuple. f ((front ++ x ∷ []) ++ tuple)) (product rest)) (λ x. flat_map (λ tuple. f (front ++ tuple)) (map (λ tuple. x ∷ tuple) (product rest))) first
-    (λ x i. flat_map_same (λ tuple. f ((front ++ x ∷ []) ++ tuple)) (λ tuple. f (front ++ x ∷ tuple)) (product rest) (λ tuple j. ap f (append_assoc front (x ∷ []) tuple))
+    flat_map_agrees (λ x. flat_map (λ tuple. f ((front ++ x ∷ []) ++ tuple)) (product rest)) (λ x. flat_map (λ tuple. f (front ++ tuple)) (map (λ tuple. x ∷ tuple) (product rest))) first
+    (λ x i. flat_map_agrees (λ tuple. f ((front ++ x ∷ []) ++ tuple)) (λ tuple. f (front ++ x ∷ tuple)) (product rest) (λ tuple j. ap f (append_assoc front (x ∷ []) tuple))
     ∙ sym (flat_map_map (λ tuple. f (front ++ tuple)) (λ tuple. x ∷ tuple) (product rest)))
     ∙ sym (flat_map_flat_map (λ tuple. f (front ++ tuple)) (λ x. map (λ tuple. x ∷ tuple) (product rest)) first)
 

@@ -10,9 +10,10 @@ use Rattle.asp_defs.specs.Instances.{Schema, pos_atoms, neg_atoms}
 use Rattle.asp_atoms.specs.declared.vocabularies.Vocabulary.{Vocabulary}
 use Rattle.asp_ground.specs.declared.template.AtomTemplate.{AtomTemplate}
 use Rattle.asp_ground.specs.declared.template.Template.{Template}
-use Rattle.asp_ground.specs.declared.variables.Variable.{Variable}
+use Rattle.asp_check.specs.declared.variables.Variable.{Variable}
 use Rattle.asp_ground.specs.Ranks.{capped}
-use Rattle.asp_ground.specs.Variables.{term_of, disjunctive_variables, element_variables, found_disjunctive, found_element}
+use Rattle.asp_check.specs.Variables.{term_of}
+use Rattle.asp_ground.specs.Variables.{disjunctive_variables, element_variables, found_disjunctive, found_element}
 use Rattle.asp_ground.specs.Templates.{instances_over}
 use Rattle.asp_ground.specs.Compiled.{atom_template, comparisons_of, template_of, schema_instances}
 

@@ -1,9 +1,8 @@
 -- The game of a program that passes all checks and keeps the limits is valid.
-use Rattle.std.proofs.Common.{ℕ, ◌≡◌, ◌+◌, ◌-◌, ◌≤◌, refl, sym, ◌∙◌, ap, Bool, true, false, not, Option, Some, None, List, [], ◌∷◌, length, arith, min}
-use Rattle.std.specs.Prelude.{IsTrue, if◌then◌else◌, nat_lt, is_none}
+use Rattle.std.proofs.Common.{ℕ, ◌≡◌, ◌+◌, ◌-◌, ◌≤◌, refl, sym, ◌∙◌, ap, true, not, Option, Some, None, List, [], ◌∷◌, length, arith}
+use Rattle.std.specs.Prelude.{IsTrue, nat_lt, is_none}
 use Rattle.std.specs.List.{list_all}
 use Rattle.std.specs.Option.{option_or, option_map}
-use Rattle.std.proofs.lemmas.Bool.{ltb-false}
 use Rattle.std.proofs.lemmas.List.{length-map}
 use Rattle.asp_defs.specs.declared.faults.Which.{Which}
 use Rattle.asp_defs.specs.declared.faults.Which.TheVariants as which
@@ -13,7 +12,7 @@ use Rattle.asp_defs.specs.Lists.{is_empty}
 use Rattle.asp_defs.specs.Bases.{base_atoms, last_level}
 use Rattle.asp_defs.specs.Safety.{all_rules}
 use Rattle.asp_defs.specs.ConstraintPart.{level_rule_count, headed_in}
-use Rattle.asp_defs.specs.Limits.{limit, past_limit, most_shown, most_arguments, most_literals, most_variables, too_large_in}
+use Rattle.asp_defs.specs.Limits.{past_limit, most_arguments, most_literals, most_variables, too_large_in}
 use Rattle.asp_defs.specs.Sizes.{constant_total, atom_total, instance_total, game_too_large}
 use Rattle.asp_defs.specs.Checks.{HeadedRule, PastLimit, safety_refusal, form_refusal, size_refusal, is_checked}
 use Rattle.asp_defs.specs.Games.{game_of, level_count, level_ground, base, rules_of, within, rule_atoms, is_constraint, IsValid}
@@ -21,28 +20,11 @@ use Rattle.asp_defs.proofs.Lists.{all_at}
 use Rattle.asp_defs.proofs.TextRefutations.{clash}
 use Rattle.asp_check.specs.Condition.{IsCheckable, has_intervals_in_facts}
 use Rattle.asp_atoms.proofs.Assembling.{base_atoms_ascend}
+use Rattle.asp_atoms.proofs.Counting.{within_limit, first_none, second_none}
 use Rattle.asp_ground.proofs.BaseAtoms.{base_numbers, bases_ascend, bases_nested, bases_long, base_at, first_empty, last_long, last_below}
 use Rattle.asp_ground.proofs.LevelRules.{rules_long, written_rules, level_at, level_within, levels_formed, level_constraints, last_rules, none_headed}
 
 -- ---- what the checks and the limits say
-
-abbrev limited : Bool → Which → ℕ → Option (Which × ℕ)
-limited past w count = if past then Some (w, min count most_shown) else None
-
-past_or_not : (b : Bool) (w : Which) (count : ℕ) → limited b w count ≡ None → b ≡ false
-past_or_not true w count e = clash (ap is_none e)
-past_or_not false w count e = refl
-
-within_limit : (w : Which) (count : ℕ) → past_limit w count ≡ None → count ≤ limit w
-within_limit w count e = ltb-false (limit w) count (past_or_not (nat_lt (limit w) count) w count e)
-
-none_first : {A : Type 0} (a b : Option A) → option_or a b ≡ None → a ≡ None
-none_first None b e = refl
-none_first (Some x) b e = clash (ap is_none e)
-
-none_second : {A : Type 0} (a b : Option A) → option_or a b ≡ None → b ≡ None
-none_second None b e = e
-none_second (Some x) b e = clash (ap is_none e)
 
 none_of : {A B : Type 0} (f : A → B) (o : Option A) → option_map f o ≡ None → o ≡ None
 none_of f None e = refl
@@ -54,23 +36,23 @@ is_none_so (Some x) e = clash e
 
 no_refusal : (p : Program) → IsTrue (is_checked p) → option_or (form_refusal p) (size_refusal p) ≡ None
 no_refusal p checked =
-    none_second (safety_refusal p) (option_or (form_refusal p) (size_refusal p))
+    second_none (safety_refusal p) (option_or (form_refusal p) (size_refusal p))
     (is_none_so (option_or (safety_refusal p) (option_or (form_refusal p) (size_refusal p))) checked)
 
 few : (p : Program) → IsTrue (is_checked p) → length p.levels ≤ 16
 few p checked =
-    let found = none_of (λ (f : Which × ℕ). PastLimit f.0 f.1) (too_large_in p) (none_second (form_refusal p) (size_refusal p) (no_refusal p checked)) in
+    let found = none_of (λ (f : Which × ℕ). PastLimit f.0 f.1) (too_large_in p) (second_none (form_refusal p) (size_refusal p) (no_refusal p checked)) in
     within_limit which.Levels (length p.levels)
-    (none_first (past_limit which.Levels (length p.levels)) (option_or (past_limit which.Arguments (most_arguments p)) (option_or (past_limit which.Literals (most_literals p)) (past_limit which.Variables (most_variables p)))) found)
+    (first_none (past_limit which.Levels (length p.levels)) (option_or (past_limit which.Arguments (most_arguments p)) (option_or (past_limit which.Literals (most_literals p)) (past_limit which.Variables (most_variables p)))) found)
 
 no_headed : (p : Program) → IsTrue (is_checked p) → headed_in p ≡ None
-no_headed p checked = none_of HeadedRule (headed_in p) (none_first (form_refusal p) (size_refusal p) (no_refusal p checked))
+no_headed p checked = none_of HeadedRule (headed_in p) (first_none (form_refusal p) (size_refusal p) (no_refusal p checked))
 
 few_atoms : (p : Program) → game_too_large p ≡ None → atom_total p ≤ 262144
 few_atoms p small =
     within_limit which.Atoms (atom_total p)
-    (none_first (past_limit which.Atoms (atom_total p)) (past_limit which.Instances (instance_total p))
-    (none_second (past_limit which.Constants (constant_total p)) (option_or (past_limit which.Atoms (atom_total p)) (past_limit which.Instances (instance_total p))) small))
+    (first_none (past_limit which.Atoms (atom_total p)) (past_limit which.Instances (instance_total p))
+    (second_none (past_limit which.Constants (constant_total p)) (option_or (past_limit which.Atoms (atom_total p)) (past_limit which.Instances (instance_total p))) small))
 
 some_level : (levels : List Part) → not (is_empty levels) ≡ true → 1 ≤ length levels
 some_level [] h = clash h

@@ -1,4 +1,4 @@
--- The templates of a rule, and the instances that they give. All definitions are transparent.
+-- The templates of a rule, and the instances that they give (of this project). All definitions are transparent.
 use Rattle.std.specs.Prelude.{ℕ, if◌then◌else◌, Bool, false, ◌&&◌, ◌==◌, List, [], ◌∷◌, map, length, get_or, replicate}
 use Rattle.std.specs.List.{flat_map, position_or_len, enumerate_from}
 use Rattle.asp_defs.specs.declared.ground.Const.{Const}
@@ -83,7 +83,8 @@ fact_template v a = record {
 }
 
 abbrev pub fact_instances : Vocabulary → Atom → List GroundRule
-fact_instances v a = instances_over (capped (length v.constants)) (fact_template v a) (map (argument_ranks v.constants) a.args)
+fact_instances v a =
+    instances_over (capped (length v.constants)) (fact_template v a) (map (argument_ranks v.constants) a.args)
 
 -- whether a head and a body are those of a fact
 abbrev pub is_fact : List Atom → List Literal → Bool

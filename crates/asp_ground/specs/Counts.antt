@@ -1,6 +1,6 @@
--- How many constants, variables and instances there are, counted from the front of a program on. All definitions are
--- transparent.
-use Rattle.std.specs.Prelude.{ℕ, ◌+◌, ◌*◌, ◌^◌, ◌≡◌, nat_lt, min, if◌then◌else◌, List, [], ◌∷◌, length, get_or}
+-- How many constants and instances there are, counted from the front of a program on (of this project). All definitions
+-- are transparent.
+use Rattle.std.specs.Prelude.{ℕ, ◌+◌, ◌*◌, ◌^◌, ◌≡◌, nat_lt, if◌then◌else◌, List, [], ◌∷◌, length, get_or}
 use Rattle.std.specs.List.{flat_map, fold, sum_by}
 use Rattle.asp_defs.specs.declared.ground.Const.{Const}
 use Rattle.asp_defs.specs.declared.syntax.Term.{Term}
@@ -11,14 +11,9 @@ use Rattle.asp_defs.specs.declared.syntax.Head.{Head}
 use Rattle.asp_defs.specs.declared.syntax.Head.TheVariants.{Disj, Choice}
 use Rattle.asp_defs.specs.declared.syntax.Rule.{Rule}
 use Rattle.asp_defs.specs.Constants.{const_cmp, with_member, interval_length, rule_constants}
-use Rattle.asp_defs.specs.Limits.{most_shown}
-use Rattle.asp_ground.specs.Ranks.{IsAscending}
+use Rattle.asp_atoms.specs.Ascending.{Ascends}
 use Rattle.asp_ground.specs.Variables.{disjunctive_variables, element_variables}
 use Rattle.asp_ground.specs.Compiled.{is_fact, no_atom}
-
--- counts end at the greatest one that is shown
-abbrev pub shown : ℕ → ℕ
-shown n = min n most_shown
 
 -- constants in their order with one more, where there is room
 abbrev pub with_constant : List Const → Const → List Const
@@ -27,7 +22,7 @@ with_constant found c = if nat_lt (length found) 4097 then with_member const_cmp
 -- constants with further ones
 pub record Gathers (old new constants : List Const) : Type 0 where
   pub added : new ≡ fold with_constant old constants
-  pub ascending : IsAscending const_cmp new
+  pub ascending : Ascends const_cmp new
 
 -- for how many terms an argument stands, and for how many facts a fact
 abbrev pub choice_count : Term → ℕ

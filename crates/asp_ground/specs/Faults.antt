@@ -1,4 +1,4 @@
--- Why a program has too many instances. All definitions are transparent.
+-- Why a program has too many instances (of this project). All definitions are transparent.
 use Rattle.std.specs.Prelude.{◌≡◌, Some}
 use Rattle.asp_defs.specs.declared.faults.Which.TheVariants.{Instances}
 use Rattle.asp_defs.specs.declared.faults.SizeFault.{SizeFault}

@@ -1,4 +1,5 @@
--- The instances of a template: its atoms and comparisons where its variables have ranks. All definitions are transparent.
+-- The instances of a template: its atoms and comparisons where its variables have ranks (of this project). All
+-- definitions are transparent.
 use Rattle.std.specs.Prelude.{ℕ, ◌+◌, ◌*◌, if◌then◌else◌, Bool, List, [], ◌∷◌, map, get_or}
 use Rattle.std.specs.List.{fold, list_all, flat_map}
 use Rattle.std.specs.Ordering.{nat_cmp}

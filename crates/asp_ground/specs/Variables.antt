@@ -1,20 +1,13 @@
--- The variables of a rule as they are found from the front, and its schemas with them. All definitions are transparent.
+-- The variables of a rule as they are found from the front, and its schemas with them (of this project). All definitions
+-- are transparent.
 use Rattle.std.specs.Prelude.{nat_lt, true, false, if◌then◌else◌, List, [], ◌∷◌, ◌++◌, length}
 use Rattle.std.specs.List.{flat_map, fold}
 use Rattle.asp_defs.specs.declared.syntax.Term.{Term}
-use Rattle.asp_defs.specs.declared.syntax.Term.TheVariants.{Var, Anon}
 use Rattle.asp_defs.specs.declared.syntax.Atom.{Atom}
 use Rattle.asp_defs.specs.declared.syntax.Literal.{Literal}
 use Rattle.asp_defs.specs.declared.syntax.Element.{Element}
 use Rattle.asp_defs.specs.Instances.{Schema, atom_variables, literal_variables}
 use Rattle.asp_defs.specs.Safety.{is_variable_of}
-use Rattle.asp_ground.specs.declared.variables.Variable.{Variable}
-use Rattle.asp_ground.specs.declared.variables.Variable.TheVariants as variants
-
--- a variable without where its name lies in memory
-abbrev pub term_of : Variable → Term
-term_of (variants.Named name) = Var name.now
-term_of (variants.Anon number) = Anon number
 
 -- variables with one more, where it is another one and there is room: a checked rule has at most 16
 abbrev pub with_variable : List Term → Term → List Term

@@ -3,14 +3,16 @@ ghost use Rattle.std.specs.Prelude.{◌≡◌, ◌++◌, map, IfOk, OnOk};
 ghost use Rattle.std.specs.List.{flat_map, position_or_len};
 ghost use Rattle.asp_defs.specs.Constants.{const_cmp};
 ghost use Rattle.asp_defs.specs.Instances.{same_variable, pos_atoms, neg_atoms};
-ghost use Rattle.asp_ground.specs.Ranks.{IsAscending, IsOrdered};
-ghost use Rattle.asp_ground.specs.Variables.{term_of};
+ghost use Rattle.asp_check.specs.Variables.{term_of};
+ghost use Rattle.asp_atoms.specs.Ascending.{Ascends};
+ghost use Rattle.asp_ground.specs.Ranks.{IsOrdered};
 ghost use Rattle.asp_ground.specs.Compiled.{slot_of, atom_template, comparisons_of};
 
-use crate::ranks::{Key, first_of, rank_of};
+use crate::ranks::{first_of, rank_of};
 use crate::template::{AtomTemplate, Comparison, Slot, Template};
-use crate::variables::{Variable, is_same};
-use asp_atoms::Vocabulary;
+use crate::variables::is_same;
+use asp_atoms::{Key, Vocabulary};
+use asp_check::Variable;
 use asp_defs::{Atom, Const, List, Literal, NoMemory, Term};
 use std::alloc::Global;
 
@@ -28,7 +30,7 @@ fn place_of(variables: &[Variable<'_>], variable: Variable<'_>) -> usize
 
 /// A term as a slot.
 fn slot_of(constants: &[Const], variables: &[Variable<'_>], term: &Term) -> Slot
-    requires { IsAscending const_cmp constants.now }
+    requires { Ascends const_cmp constants.now }
     ensures { result ≡ slot_of constants.now (map term_of variables.now) term.now }
 {
     match term {
@@ -47,7 +49,7 @@ fn slots_of(
     variables: &[Variable<'_>],
     terms: &[Term],
 ) -> Result<List<Slot>, NoMemory>
-    requires { IsAscending const_cmp constants.now }
+    requires { Ascends const_cmp constants.now }
     ensures { IfOk result (λ slots. slots ≡ map (slot_of constants.now (map term_of variables.now)) terms.now) }
 {
     let mut slots = Vec::with_capacity(alloc, terms.len())?;
@@ -85,7 +87,8 @@ pub fn atom_templates(
     atoms: &[Atom],
 ) -> Result<List<AtomTemplate>, NoMemory>
     requires { IsOrdered vocabulary.now }
-    ensures { IfOk result (λ templates. templates ≡ map (atom_template vocabulary.now (map term_of variables.now)) atoms.now) }
+    ensures { IfOk result (λ templates. templates
+        ≡ map (atom_template vocabulary.now (map term_of variables.now)) atoms.now) }
 {
     let mut templates = Vec::with_capacity(alloc, atoms.len())?;
     for atom in atoms {
@@ -101,7 +104,7 @@ fn add_comparisons(
     variables: &[Variable<'_>],
     literals: &[Literal],
 ) -> Result<(), NoMemory>
-    requires { IsAscending const_cmp constants.now }
+    requires { Ascends const_cmp constants.now }
     ensures { OnOk result (out.new.items ≡ out.old.items
         ++ flat_map (comparisons_of constants.now (map term_of variables.now)) literals.now) }
 {
@@ -170,7 +173,8 @@ pub fn compile(
     ensures { IfOk result (λ template. template ≡ record {
       choice = choice;
       heads = heads;
-      comparisons = flat_map (comparisons_of vocabulary.now.constants (map term_of variables.now)) (body.now ++ cond.now);
+      comparisons =
+          flat_map (comparisons_of vocabulary.now.constants (map term_of variables.now)) (body.now ++ cond.now);
       pos = map (atom_template vocabulary.now (map term_of variables.now)) (flat_map pos_atoms (body.now ++ cond.now));
       neg = map (atom_template vocabulary.now (map term_of variables.now)) (flat_map neg_atoms (body.now ++ cond.now));
     }) }

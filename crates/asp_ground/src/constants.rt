@@ -1,6 +1,6 @@
 //! The constants of a program, gathered without taking memory: bases have no more than 4,096, so that they stand in an
 //! array.
-ghost use Rattle.std.specs.Prelude.{◌≡◌, [], ◌∷◌, map};
+ghost use Rattle.std.specs.Prelude.{IsTrue, [], ◌∷◌, ◌+◌, ◌<◌, length, map};
 ghost use Rattle.std.specs.List.{flat_map};
 ghost use Rattle.asp_defs.specs.Constants.{
   const_cmp,
@@ -11,57 +11,80 @@ ghost use Rattle.asp_defs.specs.Constants.{
   head_constants,
   rule_constants,
 };
-ghost use Rattle.asp_ground.specs.Ranks.{IsAscending, const_of};
-ghost use Rattle.asp_ground.specs.Gaps.{IsGap};
-ghost use Rattle.asp_ground.specs.Counts.{with_constant, Gathers};
+ghost use Rattle.asp_atoms.specs.Ascending.{Ascends};
+ghost use Rattle.asp_atoms.specs.Keys.{const_of};
+ghost use Rattle.asp_ground.specs.Gaps.{IsIntegerAt, HasAll, IsPlace};
+ghost use Rattle.asp_ground.specs.Counts.{Gathers};
 
-use crate::facts::{interval_length, stepped};
-use crate::ranks::{Key, compare_keys};
 use arrayvec::ArrayVec;
+use asp_atoms::{Key, compare_keys, interval_length, stepped};
 use asp_defs::{Atom, Element, Head, Literal, Rule, Term};
-use std::cmp::Ordering;
 
-/// One more than the most constants.
-const ROOM: usize = 4097;
+/// Room for one more constant than a program with bases has at most.
+const CONSTANT_ROOM: usize = 4097;
 
 /// Ascending constants.
-pub type Constants<'a> = ArrayVec<Key<'a>, ROOM>;
+pub type Constants<'a> = ArrayVec<Key<'a>, CONSTANT_ROOM>;
 
-/// Where a constant belongs among ascending ones, and none where it stands there already.
-fn gap_for(found: &[Key<'_>], key: Key<'_>) -> Option<usize>
-    requires { IsAscending const_cmp (map const_of found.now) }
-    ensures { IsGap (map const_of found.now) (const_of key.entry) result }
+/// Where a constant stands among ascending ones, or else where it belongs there.
+fn place_for(found: &[Key<'_>], key: Key<'_>) -> Result<usize, usize>
+    requires { Ascends const_cmp (map const_of found.now) }
+    ensures { IsPlace (map const_of found.now) (const_of key.entry) result }
 {
-    let mut low = 0;
-    let mut high = found.len();
-    'halves: while low < high {
-        let middle = low + (high - low) / 2;
-        match compare_keys(key, found[middle]) {
-            Ordering::Less => high = middle,
-            Ordering::Equal => return None,
-            Ordering::Greater => low = middle + 1,
-        }
+    found.binary_search_by(|other| compare_keys(*other, key))
+}
+
+/// Whether an integer stands so many places behind a place.
+fn is_behind(found: &[Key<'_>], first: usize, steps: usize, value: i32) -> bool
+    requires { first < length found.now }
+    ensures { IsTrue result → IsIntegerAt (map const_of found.now) value (first + steps) }
+{
+    if steps >= found.len() - first {
+        return false;
     }
-    Some(low)
+    compare_keys(found[first + steps], Key::Int(value)).is_eq()
+}
+
+/// Whether all integers of an interval stand among ascending constants: its first one does, and its last one stands as
+/// far behind it as it has to.
+fn has_interval(found: &[Key<'_>], low: i32, high: i32) -> bool
+    requires { Ascends const_cmp (map const_of found.now) }
+    ensures { IsTrue result → HasAll (map const_of found.now) (term_constants (Term.Range low high)) }
+{
+    let length = interval_length(low, high) as usize;
+    if length == 0 {
+        return true;
+    }
+    match place_for(found, Key::Int(low)) {
+        Ok(first) => is_behind(found, first, length - 1, high),
+        Err(_) => false,
+    }
 }
 
 /// Adds a constant, unless it stands there already.
 fn add_constant<'a>(found: &mut Constants<'a>, key: Key<'a>)
-    requires { IsAscending const_cmp (map const_of found.old.items) }
+    requires { Ascends const_cmp (map const_of found.old.items) }
     ensures { Gathers (map const_of found.old.items) (map const_of found.new.items) (const_of key.entry ∷ []) }
 {
-    if let Some(place) = gap_for(found.as_slice(), key) {
-        if !found.is_full() {
-            found.insert(place, key);
+    match place_for(found.as_slice(), key) {
+        Ok(_) => {}
+        Err(place) => {
+            if !found.is_full() {
+                found.insert(place, key);
+            }
         }
     }
 }
 
-/// Adds the integers of an interval.
+/// Adds the integers of an interval, unless all of them stand there already.
 fn add_interval(found: &mut Constants<'_>, low: i32, high: i32)
-    requires { IsAscending const_cmp (map const_of found.old.items) }
-    ensures { Gathers (map const_of found.old.items) (map const_of found.new.items) (term_constants (Term.Range low high)) }
+    requires { Ascends const_cmp (map const_of found.old.items) }
+    ensures { Gathers (map const_of found.old.items) (map const_of found.new.items)
+        (term_constants (Term.Range low high)) }
 {
+    if has_interval(found.as_slice(), low, high) {
+        return;
+    }
     for step in 0..interval_length(low, high) {
         let value = stepped(low, high, step);
         add_constant(found, Key::Int(value));
@@ -70,7 +93,7 @@ fn add_interval(found: &mut Constants<'_>, low: i32, high: i32)
 
 /// Adds the constants for which a term stands.
 fn add_term<'a>(found: &mut Constants<'a>, term: &'a Term)
-    requires { IsAscending const_cmp (map const_of found.old.items) }
+    requires { Ascends const_cmp (map const_of found.old.items) }
     ensures { Gathers (map const_of found.old.items) (map const_of found.new.items) (term_constants term.now) }
 {
     match term {
@@ -84,7 +107,7 @@ fn add_term<'a>(found: &mut Constants<'a>, term: &'a Term)
 
 /// Adds the constants of an atom.
 fn add_atom<'a>(found: &mut Constants<'a>, atom: &'a Atom)
-    requires { IsAscending const_cmp (map const_of found.old.items) }
+    requires { Ascends const_cmp (map const_of found.old.items) }
     ensures { Gathers (map const_of found.old.items) (map const_of found.new.items) (atom_constants atom.now) }
 {
     let args = atom.args.as_slice();
@@ -95,7 +118,7 @@ fn add_atom<'a>(found: &mut Constants<'a>, atom: &'a Atom)
 
 /// Adds the constants of a literal.
 fn add_literal<'a>(found: &mut Constants<'a>, literal: &'a Literal)
-    requires { IsAscending const_cmp (map const_of found.old.items) }
+    requires { Ascends const_cmp (map const_of found.old.items) }
     ensures { Gathers (map const_of found.old.items) (map const_of found.new.items) (literal_constants literal.now) }
 {
     match literal {
@@ -110,8 +133,9 @@ fn add_literal<'a>(found: &mut Constants<'a>, literal: &'a Literal)
 
 /// Adds the constants of literals.
 fn add_literals<'a>(found: &mut Constants<'a>, literals: &'a [Literal])
-    requires { IsAscending const_cmp (map const_of found.old.items) }
-    ensures { Gathers (map const_of found.old.items) (map const_of found.new.items) (flat_map literal_constants literals.now) }
+    requires { Ascends const_cmp (map const_of found.old.items) }
+    ensures { Gathers (map const_of found.old.items) (map const_of found.new.items)
+        (flat_map literal_constants literals.now) }
 {
     for literal in literals {
         add_literal(found, literal);
@@ -120,8 +144,9 @@ fn add_literals<'a>(found: &mut Constants<'a>, literals: &'a [Literal])
 
 /// Adds the constants of atoms.
 fn add_atoms<'a>(found: &mut Constants<'a>, atoms: &'a [Atom])
-    requires { IsAscending const_cmp (map const_of found.old.items) }
-    ensures { Gathers (map const_of found.old.items) (map const_of found.new.items) (flat_map atom_constants atoms.now) }
+    requires { Ascends const_cmp (map const_of found.old.items) }
+    ensures { Gathers (map const_of found.old.items) (map const_of found.new.items)
+        (flat_map atom_constants atoms.now) }
 {
     for atom in atoms {
         add_atom(found, atom);
@@ -130,7 +155,7 @@ fn add_atoms<'a>(found: &mut Constants<'a>, atoms: &'a [Atom])
 
 /// Adds the constants of an element.
 fn add_element<'a>(found: &mut Constants<'a>, element: &'a Element)
-    requires { IsAscending const_cmp (map const_of found.old.items) }
+    requires { Ascends const_cmp (map const_of found.old.items) }
     ensures { Gathers (map const_of found.old.items) (map const_of found.new.items) (element_constants element.now) }
 {
     add_atom(found, &element.atom);
@@ -139,8 +164,9 @@ fn add_element<'a>(found: &mut Constants<'a>, element: &'a Element)
 
 /// Adds the constants of elements.
 fn add_elements<'a>(found: &mut Constants<'a>, elements: &'a [Element])
-    requires { IsAscending const_cmp (map const_of found.old.items) }
-    ensures { Gathers (map const_of found.old.items) (map const_of found.new.items) (flat_map element_constants elements.now) }
+    requires { Ascends const_cmp (map const_of found.old.items) }
+    ensures { Gathers (map const_of found.old.items) (map const_of found.new.items)
+        (flat_map element_constants elements.now) }
 {
     for element in elements {
         add_element(found, element);
@@ -149,7 +175,7 @@ fn add_elements<'a>(found: &mut Constants<'a>, elements: &'a [Element])
 
 /// Adds the constants of a head.
 fn add_head<'a>(found: &mut Constants<'a>, head: &'a Head)
-    requires { IsAscending const_cmp (map const_of found.old.items) }
+    requires { Ascends const_cmp (map const_of found.old.items) }
     ensures { Gathers (map const_of found.old.items) (map const_of found.new.items) (head_constants head.now) }
 {
     match head {
@@ -160,7 +186,7 @@ fn add_head<'a>(found: &mut Constants<'a>, head: &'a Head)
 
 /// Adds the constants of a rule.
 fn add_rule<'a>(found: &mut Constants<'a>, rule: &'a Rule)
-    requires { IsAscending const_cmp (map const_of found.old.items) }
+    requires { Ascends const_cmp (map const_of found.old.items) }
     ensures { Gathers (map const_of found.old.items) (map const_of found.new.items) (rule_constants rule.now) }
 {
     add_head(found, &rule.head);
@@ -169,8 +195,9 @@ fn add_rule<'a>(found: &mut Constants<'a>, rule: &'a Rule)
 
 /// Adds the constants of rules.
 pub fn add_rules<'a>(found: &mut Constants<'a>, rules: &'a [Rule])
-    requires { IsAscending const_cmp (map const_of found.old.items) }
-    ensures { Gathers (map const_of found.old.items) (map const_of found.new.items) (flat_map rule_constants rules.now) }
+    requires { Ascends const_cmp (map const_of found.old.items) }
+    ensures { Gathers (map const_of found.old.items) (map const_of found.new.items)
+        (flat_map rule_constants rules.now) }
 {
     for rule in rules {
         add_rule(found, rule);

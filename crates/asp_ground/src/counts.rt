@@ -1,52 +1,20 @@
 //! How many instances a program has.
-ghost use Rattle.std.specs.Prelude.{◌≡◌, ◌+◌, ◌*◌, ◌^◌, ◌++◌, [], None, map, min, length};
-ghost use Rattle.std.specs.List.{flat_map, fold, sum_by};
+ghost use Rattle.std.specs.Prelude.{◌≡◌, ◌^◌, None, min, length};
+ghost use Rattle.std.specs.List.{sum_by};
 ghost use Rattle.asp_defs.specs.Bases.{bases_of};
 ghost use Rattle.asp_defs.specs.Limits.{most_shown};
 ghost use Rattle.asp_defs.specs.Sizes.{instance_total};
 ghost use Rattle.asp_atoms.specs.Answers.{base_too_large};
-ghost use Rattle.asp_ground.specs.Variables.{disjunctive_variables, element_variables};
-ghost use Rattle.asp_ground.specs.Counts.{
-  shown,
-  choice_count,
-  fact_count,
-  head_count,
-  rule_count,
-};
+ghost use Rattle.asp_atoms.specs.Counts.{shown};
+ghost use Rattle.asp_ground.specs.Variables.{element_variables};
+ghost use Rattle.asp_ground.specs.Counts.{choice_count, fact_count, head_count, rule_count};
 
 use crate::constants::{Constants, add_rules};
-use crate::facts::interval_length;
 use crate::variables::{disjunctive_variables, element_variables};
+use asp_atoms::counts::{power, product, sum};
+use asp_atoms::interval_length;
 use asp_check::Checked;
 use asp_defs::{Atom, Bases, Element, Head, Literal, Rule, Term};
-
-/// The greatest count that is shown.
-const MOST_SHOWN: u64 = 1_000_000_000_000_000_000;
-
-/// A sum, at most the greatest count that is shown.
-fn sum(left: u64, right: u64) -> u64
-    ensures { result ≡ shown (left + right) }
-{
-    left.saturating_add(right).min(MOST_SHOWN)
-}
-
-/// A product, at most the greatest count that is shown.
-fn product(left: u64, right: u64) -> u64
-    ensures { result ≡ shown (left * right) }
-{
-    left.saturating_mul(right).min(MOST_SHOWN)
-}
-
-/// A power, at most the greatest count that is shown.
-fn power(size: u64, exponent: usize) -> u64
-    ensures { result ≡ shown (size ^ exponent) }
-{
-    let mut count = 1_u64;
-    for _place in 0..exponent {
-        count = product(count, size);
-    }
-    count
-}
 
 /// For how many terms an argument stands.
 fn choice_count(term: &Term) -> u64
@@ -117,16 +85,16 @@ fn rules_count(size: u64, rules: &[Rule]) -> u64
     count
 }
 
-/// How many instances a program has, before comparisons are looked at: at most 10^18 is answered.
+/// How many instances a program has, before comparisons are looked at: at most 10^18 is answered. Takes no memory.
 ///
-/// The universes aren't to be had from the bases where no predicate has an argument, so the constants are gathered from
-/// the program, which is linear in its length but for the places of constants among each other.
-pub fn count(checked: &Checked, bases: &Bases) -> u64
-    requires bases { bases.now ≡ bases_of checked.now }
-    requires small { base_too_large checked.now ≡ None }
+/// No base is needed: the constants are gathered from the program, each by a search among those that are there, of which a
+/// program with bases has at most 4,096. An interval all of whose integers are there costs one search. Each other one is
+/// walked and adds a constant, so that all walks together have less than 2^24 steps, and the rest of the time is linear in
+/// the program but for these searches.
+pub fn instance_count(checked: &Checked) -> u64
+    requires { base_too_large checked.now ≡ None }
     ensures { result ≡ min (instance_total checked.now) most_shown }
 {
-    let _ = bases;
     let program = checked.program();
     let levels = program.levels.as_slice();
     let mut found = Constants::new();
@@ -139,4 +107,15 @@ pub fn count(checked: &Checked, bases: &Bases) -> u64
     let cons = program.cons.as_slice();
     add_rules(&mut found, cons);
     sum(count, rules_count(found.len() as u64, cons))
+}
+
+/// How many instances a program has, as `instance_count` says. The bases are those that `bases` answered of the program;
+/// nothing in them is looked at.
+pub fn count(checked: &Checked, bases: &Bases) -> u64
+    requires bases { bases.now ≡ bases_of checked.now }
+    requires small { base_too_large checked.now ≡ None }
+    ensures { result ≡ min (instance_total checked.now) most_shown }
+{
+    let _ = bases;
+    instance_count(checked)
 }

@@ -1,35 +1,17 @@
 //! The instances of facts, whose arguments may be intervals.
-ghost use Rattle.std.specs.Prelude.{◌≡◌, ◌<◌, ◌++◌, ◌+ℤ◌, pos, map, IfOk, OnOk};
-ghost use Rattle.asp_defs.specs.Constants.{const_cmp, interval_length};
+ghost use Rattle.std.specs.Prelude.{◌≡◌, ◌++◌, map, IfOk, OnOk};
+ghost use Rattle.asp_defs.specs.Constants.{const_cmp};
 ghost use Rattle.asp_defs.specs.Lists.{numbers_from};
-ghost use Rattle.asp_ground.specs.Ranks.{IsAscending, IsOrdered};
+ghost use Rattle.asp_atoms.specs.Ascending.{Ascends};
+ghost use Rattle.asp_ground.specs.Ranks.{IsOrdered};
 ghost use Rattle.asp_ground.specs.Compiled.{argument_ranks, fact_template, fact_instances};
 
 use crate::instances::add_all;
-use crate::ranks::{Key, capped, first_of, rank_of};
+use crate::ranks::{capped, first_of, rank_of};
 use crate::template::{AtomTemplate, Slot, Template};
-use asp_atoms::Vocabulary;
+use asp_atoms::{Key, Vocabulary, interval_length, stepped};
 use asp_defs::{Atom, Const, GroundRule, List, NoMemory, Term};
 use std::alloc::Global;
-
-/// How many integers an interval has: none where its ends are swapped.
-pub fn interval_length(low: i32, high: i32) -> u64
-    ensures { result ≡ interval_length low high }
-{
-    if low <= high {
-        (i64::from(high) - i64::from(low) + 1) as u64
-    } else {
-        0
-    }
-}
-
-/// The integer so many steps behind another, where it is one of 32 bits.
-pub fn stepped(low: i32, high: i32, step: u64) -> i32
-    requires { step < interval_length low high }
-    ensures { result ≡ low +ℤ pos step }
-{
-    (i64::from(low) + step as i64) as i32
-}
 
 /// The ranks of the integers of an interval.
 fn interval_ranks(
@@ -38,7 +20,7 @@ fn interval_ranks(
     low: i32,
     high: i32,
 ) -> Result<Vec<u32>, NoMemory>
-    requires { IsAscending const_cmp constants.now }
+    requires { Ascends const_cmp constants.now }
     ensures { IfOk result (λ ranks. ranks.items ≡ argument_ranks constants.now (Term.Range low high)) }
 {
     let mut ranks = Vec::new(alloc);
@@ -51,7 +33,7 @@ fn interval_ranks(
 
 /// The ranks that an argument stands for.
 fn argument_ranks(alloc: Global, constants: &[Const], term: &Term) -> Result<Vec<u32>, NoMemory>
-    requires { IsAscending const_cmp constants.now }
+    requires { Ascends const_cmp constants.now }
     ensures { IfOk result (λ ranks. ranks.items ≡ argument_ranks constants.now term.now) }
 {
     let mut ranks = Vec::new(alloc);
@@ -71,7 +53,7 @@ fn all_argument_ranks(
     constants: &[Const],
     terms: &[Term],
 ) -> Result<List<List<u32>>, NoMemory>
-    requires { IsAscending const_cmp constants.now }
+    requires { Ascends const_cmp constants.now }
     ensures { IfOk result (λ ranks. ranks ≡ map (argument_ranks constants.now) terms.now) }
 {
     let mut ranks = Vec::with_capacity(alloc, terms.len())?;

@@ -9,15 +9,12 @@ ghost use Rattle.asp_ground.specs.Ranks.{IsOrdered};
 ghost use Rattle.asp_ground.specs.Compiled.{compiled_levels};
 ghost use Rattle.asp_ground.specs.Faults.{IsInstanceFault};
 
-use crate::counts::count;
+use crate::counts::instance_count;
 use crate::rules::level_rules;
 use asp_atoms::{Vocabulary, vocabulary};
 use asp_check::Checked;
 use asp_defs::{Bases, Game, GroundRule, List, NoMemory, Part, Program, Quant, SizeFault, Which};
 use std::alloc::Global;
-
-/// The most instances of a program.
-const MOST_INSTANCES: u64 = 4_000_000;
 
 /// The quantifiers of levels.
 fn quants(alloc: Global, levels: &[Part]) -> Result<List<Quant>, NoMemory>
@@ -51,7 +48,8 @@ fn levels_rules(
 /// The game of a program: all instances of all its rules. An instance whose comparisons are false is left out, and true
 /// comparisons are removed.
 ///
-/// The time is linear in the instances and their literals. An instance takes 80 bytes, and each of its literals 4.
+/// The bases are those that `bases` answered of the program. The time is linear in the instances and their literals. An
+/// instance takes 80 bytes, and each of its literals 4.
 ///
 /// # Errors
 ///
@@ -64,9 +62,8 @@ pub fn ground(alloc: Global, checked: &Checked, bases: Bases) -> Result<Game, Si
     ensures small { OnOk result (past_limit Which.Instances (instance_total checked.now) ≡ None) }
     ensures refused { IfErr result (IsInstanceFault checked.now) }
 {
-    let instances = count(checked, &bases);
-    if instances > MOST_INSTANCES {
-        return Err(SizeFault::TooLarge(Which::Instances, instances));
+    if let Some((which, count)) = Which::Instances.past_limit(instance_count(checked)) {
+        return Err(SizeFault::TooLarge(which, count));
     }
     let vocabulary = vocabulary(alloc, checked)?;
     let program = checked.program();

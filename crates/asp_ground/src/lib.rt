@@ -5,8 +5,8 @@
 //! its arguments. An instance is then made of ranks alone: an atom's number is its predicate's first one with the ranks
 //! of its arguments read as digits, and constants compare as their ranks do.
 //!
-//! In reading order: `template` (compiled rules), `ranks` (where constants and predicates stand), `variables` (those of a
-//! rule, each once), `compile` (a rule's template), `instances` (a template under all ranks), `facts` (facts with
+//! In reading order: `template` (compiled rules), `ranks` (where constants and predicates stand), `variables` (those of
+//! a rule, each once), `compile` (a rule's template), `instances` (a template under all ranks), `facts` (facts with
 //! intervals), `rules` (the instances of rules and levels), `game` (those of a program), `constants` and `counts` (how
 //! many instances there are, counted without taking memory), `laws` (the game of a program is valid).
 #![tactic(auto)]
@@ -23,7 +23,7 @@ mod rules;
 mod template;
 mod variables;
 
-pub use counts::count;
+pub use counts::{count, instance_count};
 pub use game::ground;
 
 #[cfg(test)]

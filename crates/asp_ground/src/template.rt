@@ -10,27 +10,37 @@ pub enum Slot {
     Variable(usize),
 }
 
-/// An atom of a template: the number of its predicate's first atom, and its arguments.
+/// An atom of a template.
 #[derive(Debug, Drop)]
 pub struct AtomTemplate {
+    /// The number of its predicate's first atom.
     pub first: u32,
+    /// Its arguments.
     pub slots: List<Slot>,
 }
 
 /// A comparison of a template.
 #[derive(Debug, Clone, Copy, PartialEq, Eq)]
 pub struct Comparison {
+    /// What stands before the operator.
     pub left: Slot,
+    /// How the two ranks have to compare.
     pub op: Op,
+    /// What stands behind the operator.
     pub right: Slot,
 }
 
 /// A rule that is instantiated as one.
 #[derive(Debug, Drop)]
 pub struct Template {
+    /// Whether the instances are choices.
     pub choice: bool,
+    /// The atoms of the head.
     pub heads: List<AtomTemplate>,
+    /// The comparisons of the body: an instance is left out where one is false.
     pub comparisons: List<Comparison>,
+    /// The positive atoms of the body.
     pub pos: List<AtomTemplate>,
+    /// The negative atoms of the body.
     pub neg: List<AtomTemplate>,
 }

@@ -1,33 +1,31 @@
 //! Programs as single signs, and their games written down.
-ghost use Rattle.std.specs.Prelude.{◌≡◌, ◌&&◌, IsTrue};
+ghost use Rattle.std.specs.Prelude.{◌≡◌, true};
 ghost use Rattle.std.specs.List.{list_all};
-ghost use Rattle.asp_defs.specs.Safety.{all_rules};
 ghost use Rattle.asp_check.specs.Condition.{
   is_single,
   is_single_atom,
   is_single_literal,
   is_single_element,
-  is_single_head,
-  is_fact,
   has_intervals_in_facts,
-  IsCheckable,
 };
 
-use crate::{count, ground};
+use crate::{count, ground, instance_count};
 use asp_atoms::bases;
-use asp_check::{Checked, check};
+use asp_check::{CheckFault, Checked, check};
 use asp_defs::{
     Atom, Element, Game, GroundRule, Head, List, Literal, Name, NoMemory, Op, Part, Program, Quant,
     Rule, SizeFault, Term, Which,
 };
-use std::alloc::Global;
+use std::alloc::{AllocError, Global};
 use std::mem;
+use std::test::Fail;
 
-/// A program on the way: terms come first, and then the sign of what they are put into.
+/// A program on the way: terms come first, then the sign of what they are put into. Intervals get into facts alone: an
+/// atom with one is dropped elsewhere.
 #[derive(Drop)]
 struct Builder {
     alloc: Global,
-    /// The interval that a sign stands for.
+    /// The ends of the interval that a sign stands for.
     low: i32,
     high: i32,
     /// How many nameless variables the rule has so far.
@@ -39,158 +37,11 @@ struct Builder {
     elements: Vec<Element>,
     rules: Vec<Rule>,
     levels: Vec<Part>,
-}
-
-impl Builder {
-    fn new(alloc: Global, low: i32, high: i32) -> Builder {
-        Builder {
-            alloc,
-            low,
-            high,
-            nameless: 0,
-            terms: Vec::new(alloc),
-            named: Vec::new(alloc),
-            atoms: Vec::new(alloc),
-            literals: Vec::new(alloc),
-            elements: Vec::new(alloc),
-            rules: Vec::new(alloc),
-            levels: Vec::new(alloc),
-        }
-    }
-
-    /// The atom with the name and the terms.
-    fn name(&mut self, sign: u8) -> Result<(), NoMemory> {
-        let args = mem::replace(&mut self.terms, Vec::new(self.alloc));
-        let name = Name::from_slice(self.alloc, &[sign])?;
-        let args = List::from_vec(args);
-        self.named.push(Atom { name, args })?;
-        Ok(())
-    }
-
-    fn head(&mut self) -> Result<(), NoMemory> {
-        if let Some(atom) = self.named.pop() {
-            self.atoms.push(atom)?;
-        }
-        Ok(())
-    }
-
-    fn positive(&mut self) -> Result<(), NoMemory> {
-        if let Some(atom) = self.named.pop() {
-            self.literals.push(Literal::Pos(atom))?;
-        }
-        Ok(())
-    }
-
-    fn negative(&mut self) -> Result<(), NoMemory> {
-        if let Some(atom) = self.named.pop() {
-            self.literals.push(Literal::Neg(atom))?;
-        }
-        Ok(())
-    }
-
-    fn compare(&mut self, op: Op) -> Result<(), NoMemory> {
-        let right = self.terms.pop();
-        let left = self.terms.pop();
-        if let (Some(left), Some(right)) = (left, right) {
-            self.literals.push(Literal::Cmp(left, op, right))?;
-        }
-        Ok(())
-    }
-
-    /// An element of the last atom, with the literals as its condition.
-    fn element(&mut self) -> Result<(), NoMemory> {
-        let cond = mem::replace(&mut self.literals, Vec::new(self.alloc));
-        if let Some(atom) = self.atoms.pop() {
-            let cond = List::from_vec(cond);
-            self.elements.push(Element { atom, cond })?;
-        }
-        Ok(())
-    }
-
-    fn rule(&mut self, head: Head) -> Result<(), NoMemory> {
-        let body = mem::replace(&mut self.literals, Vec::new(self.alloc));
-        let body = List::from_vec(body);
-        self.nameless = 0;
-        self.rules.push(Rule { head, body })?;
-        Ok(())
-    }
-
-    fn disjunction(&mut self) -> Result<(), NoMemory> {
-        let atoms = mem::replace(&mut self.atoms, Vec::new(self.alloc));
-        self.rule(Head::Disj(List::from_vec(atoms)))
-    }
-
-    fn choice(&mut self) -> Result<(), NoMemory> {
-        let elements = mem::replace(&mut self.elements, Vec::new(self.alloc));
-        self.rule(Head::Choice(List::from_vec(elements)))
-    }
-
-    fn level(&mut self, quant: Quant) -> Result<(), NoMemory> {
-        let rules = mem::replace(&mut self.rules, Vec::new(self.alloc));
-        let rules = List::from_vec(rules);
-        self.levels.push(Part { quant, rules })?;
-        Ok(())
-    }
-
-    fn term(&mut self, term: Term) -> Result<(), NoMemory> {
-        self.terms.push(term)?;
-        Ok(())
-    }
-
-    fn nameless(&mut self) -> Result<(), NoMemory> {
-        self.nameless = self.nameless.saturating_add(1);
-        self.term(Term::Anon(self.nameless))
-    }
-
-    fn put(&mut self, sign: u8) -> Result<(), NoMemory> {
-        match sign {
-            b'A'..=b'Z' => {
-                let name = Name::from_slice(self.alloc, &[sign])?;
-                self.term(Term::Var(name))
-            }
-            b'0'..=b'9' => self.term(Term::Int(sign as i32 - 48)),
-            b'a'..=b'c' => {
-                let name = Name::from_slice(self.alloc, &[sign])?;
-                self.term(Term::Sym(name))
-            }
-            b'_' => self.nameless(),
-            b'[' => self.term(Term::Range(self.low, self.high)),
-            b']' => self.term(Term::Range(self.high, self.low)),
-            b'p'..=b't' => self.name(sign),
-            b'h' => self.head(),
-            b'+' => self.positive(),
-            b'-' => self.negative(),
-            b'=' => self.compare(Op::Eq),
-            b'!' => self.compare(Op::Ne),
-            b'<' => self.compare(Op::Lt),
-            b'l' => self.compare(Op::Le),
-            b'>' => self.compare(Op::Gt),
-            b'g' => self.compare(Op::Ge),
-            b'e' => self.element(),
-            b'.' => self.disjunction(),
-            b'}' => self.choice(),
-            b'%' => self.level(Quant::Exists),
-            b'&' => self.level(Quant::Forall),
-            _ => Ok(()),
-        }
-    }
-}
-
-/// The program that is built. Rules behind the last level are the constraint part.
-fn built(builder: Builder) -> Program {
-    Program {
-        levels: List::from_vec(builder.levels),
-        cons: List::from_vec(builder.rules),
-    }
-}
-
-/// The program that the signs build.
-fn program(alloc: Global, signs: &[u8], low: i32, high: i32) -> Result<Program, NoMemory> {
-    let mut builder = Builder::new(alloc, low, high);
-    for sign in signs {
-        builder.put(*sign)?;
-    }
-    Ok(built(builder))
+    ghost heads: { list_all is_single_atom atoms.items ≡ true },
+    ghost bodies: { list_all is_single_literal literals.items ≡ true },
+    ghost choices: { list_all is_single_element elements.items ≡ true },
+    ghost begun: { list_all has_intervals_in_facts rules.items ≡ true },
+    ghost ended: { list_all (λ part. list_all has_intervals_in_facts part.rules) levels.items ≡ true },
 }
 
 fn is_single(term: &Term) -> bool
@@ -212,105 +63,168 @@ fn is_single_atom(atom: &Atom) -> bool
     args.iter().all(|term| is_single(term))
 }
 
-fn is_single_literal(literal: &Literal) -> bool
-    ensures { result ≡ is_single_literal literal.now }
-{
-    match literal {
-        Literal::Pos(atom) => is_single_atom(atom),
-        Literal::Neg(atom) => is_single_atom(atom),
-        Literal::Cmp(left, _, right) => is_single(left) && is_single(right),
+impl Builder {
+    /// The atom with the name and the terms.
+    fn name(&mut self, sign: u8) -> Result<(), NoMemory> {
+        let args = mem::replace(&mut self.terms, Vec::new(self.alloc));
+        let name = Name::from_slice(self.alloc, &[sign])?;
+        let args = List::from_vec(args);
+        self.named.push(Atom { name, args })?;
+        Ok(())
+    }
+
+    fn head(&mut self) -> Result<(), NoMemory> {
+        if let Some(atom) = self.named.pop() {
+            if is_single_atom(&atom) {
+                self.atoms.push(atom)?;
+            }
+        }
+        Ok(())
+    }
+
+    fn literal(&mut self, is_positive: bool) -> Result<(), NoMemory> {
+        if let Some(atom) = self.named.pop() {
+            if is_single_atom(&atom) {
+                if is_positive {
+                    self.literals.push(Literal::Pos(atom))?;
+                } else {
+                    self.literals.push(Literal::Neg(atom))?;
+                }
+            }
+        }
+        Ok(())
+    }
+
+    fn compare(&mut self, op: Op) -> Result<(), NoMemory> {
+        let right = self.terms.pop();
+        let left = self.terms.pop();
+        if let (Some(left), Some(right)) = (left, right) {
+            if is_single(&left) && is_single(&right) {
+                self.literals.push(Literal::Cmp(left, op, right))?;
+            }
+        }
+        Ok(())
+    }
+
+    /// An element of the last atom, with the literals as its condition.
+    fn element(&mut self) -> Result<(), NoMemory> {
+        let cond = mem::replace(&mut self.literals, Vec::new(self.alloc));
+        if let Some(atom) = self.named.pop() {
+            if is_single_atom(&atom) {
+                let cond = List::from_vec(cond);
+                self.elements.push(Element { atom, cond })?;
+            }
+        }
+        Ok(())
+    }
+
+    /// The fact of the last atom, which may have intervals.
+    fn fact(&mut self) -> Result<(), NoMemory> {
+        if let Some(atom) = self.named.pop() {
+            let mut atoms = List::new(self.alloc);
+            atoms.push(atom)?;
+            self.rules.push(Rule {
+                head: Head::Disj(atoms),
+                body: List::new(self.alloc),
+            })?;
+        }
+        Ok(())
+    }
+
+    /// The rule with the literals as its body: a choice of the elements, or a disjunction of the atoms.
+    fn rule(&mut self, is_choice: bool) -> Result<(), NoMemory> {
+        let elements = mem::replace(&mut self.elements, Vec::new(self.alloc));
+        let atoms = mem::replace(&mut self.atoms, Vec::new(self.alloc));
+        let body = mem::replace(&mut self.literals, Vec::new(self.alloc));
+        self.nameless = 0;
+        let head = if is_choice {
+            Head::Choice(List::from_vec(elements))
+        } else {
+            Head::Disj(List::from_vec(atoms))
+        };
+        let body = List::from_vec(body);
+        self.rules.push(Rule { head, body })?;
+        Ok(())
+    }
+
+    fn level(&mut self, quant: Quant) -> Result<(), NoMemory> {
+        let rules = mem::replace(&mut self.rules, Vec::new(self.alloc));
+        let rules = List::from_vec(rules);
+        self.levels.push(Part { quant, rules })?;
+        Ok(())
+    }
+
+    fn term(&mut self, sign: u8) -> Result<(), NoMemory> {
+        let term = match sign {
+            b'0'..=b'9' => Term::Int(sign as i32 - 48),
+            b'[' => Term::Range(self.low, self.high),
+            b']' => Term::Range(self.high, self.low),
+            b'_' => {
+                self.nameless = self.nameless.saturating_add(1);
+                Term::Anon(self.nameless)
+            }
+            b'a'..=b'c' => Term::Sym(Name::from_slice(self.alloc, &[sign])?),
+            _ => Term::Var(Name::from_slice(self.alloc, &[sign])?),
+        };
+        self.terms.push(term)?;
+        Ok(())
+    }
+
+    fn put(&mut self, sign: u8) -> Result<(), NoMemory> {
+        match sign {
+            b'p'..=b't' => self.name(sign),
+            b'h' => self.head(),
+            b'+' => self.literal(true),
+            b'-' => self.literal(false),
+            b'=' => self.compare(Op::Eq),
+            b'!' => self.compare(Op::Ne),
+            b'<' => self.compare(Op::Lt),
+            b'l' => self.compare(Op::Le),
+            b'>' => self.compare(Op::Gt),
+            b'g' => self.compare(Op::Ge),
+            b'e' => self.element(),
+            b'f' => self.fact(),
+            b'.' => self.rule(false),
+            b'}' => self.rule(true),
+            b'%' => self.level(Quant::Exists),
+            b'&' => self.level(Quant::Forall),
+            _ => self.term(sign),
+        }
+    }
+
+    /// The program, if it has a level and passes the checks. Rules behind the last level are the constraint part.
+    fn checked(self) -> Result<Checked, CheckFault> {
+        if self.levels.is_empty() {
+            return Err(CheckFault::NoMemory);
+        }
+        let alloc = self.alloc;
+        let program = Program {
+            levels: List::from_vec(self.levels),
+            cons: List::from_vec(self.rules),
+        };
+        check(alloc, program)
     }
 }
 
-fn are_single_literals(literals: &[Literal]) -> bool
-    ensures { result ≡ list_all is_single_literal literals.now }
-{
-    literals.iter().all(|literal| is_single_literal(literal))
-}
-
-fn are_single_atoms(atoms: &[Atom]) -> bool
-    ensures { result ≡ list_all is_single_atom atoms.now }
-{
-    atoms.iter().all(|atom| is_single_atom(atom))
-}
-
-fn is_single_element(element: &Element) -> bool
-    ensures { result ≡ is_single_element element.now }
-{
-    is_single_atom(&element.atom) && are_single_literals(element.cond.as_slice())
-}
-
-fn are_single_elements(elements: &[Element]) -> bool
-    ensures { result ≡ list_all is_single_element elements.now }
-{
-    elements.iter().all(|element| is_single_element(element))
-}
-
-fn is_single_head(head: &Head) -> bool
-    ensures { result ≡ is_single_head head.now }
-{
-    match head {
-        Head::Disj(atoms) => are_single_atoms(atoms.as_slice()),
-        Head::Choice(elements) => are_single_elements(elements.as_slice()),
+/// The checked program that the signs build, where an interval has these ends.
+fn checked(alloc: Global, signs: &[u8], low: i32, high: i32) -> Result<Checked, Fail> {
+    let mut builder = Builder {
+        alloc,
+        low,
+        high,
+        nameless: 0,
+        terms: Vec::new(alloc),
+        named: Vec::new(alloc),
+        atoms: Vec::new(alloc),
+        literals: Vec::new(alloc),
+        elements: Vec::new(alloc),
+        rules: Vec::new(alloc),
+        levels: Vec::new(alloc),
+    };
+    for sign in signs {
+        builder.put(*sign)?;
     }
-}
-
-fn is_fact(rule: &Rule) -> bool
-    ensures { result ≡ is_fact rule.now }
-{
-    match &rule.head {
-        Head::Disj(atoms) => atoms.len() == 1 && rule.body.is_empty(),
-        Head::Choice(_) => false,
-    }
-}
-
-fn has_intervals_in_facts(rule: &Rule) -> bool
-    ensures { result ≡ has_intervals_in_facts rule.now }
-{
-    if is_fact(rule) {
-        true
-    } else {
-        is_single_head(&rule.head) && are_single_literals(rule.body.as_slice())
-    }
-}
-
-fn have_intervals_in_facts(rules: &[Rule]) -> bool
-    ensures { result ≡ list_all has_intervals_in_facts rules.now }
-{
-    rules.iter().all(|rule| has_intervals_in_facts(rule))
-}
-
-fn levels_have_intervals_in_facts(levels: &[Part]) -> bool
-    ensures { result ≡ list_all (λ part. list_all has_intervals_in_facts part.rules) levels.now }
-{
-    levels
-        .iter()
-        .all(|level| have_intervals_in_facts(level.rules.as_slice()))
-}
-
-/// Whether a program may be checked.
-fn is_checkable(program: &Program) -> bool
-    ensures { IsTrue result → IsCheckable program.now }
-{
-    if program.levels.is_empty() {
-        return false;
-    }
-    if !levels_have_intervals_in_facts(program.levels.as_slice()) {
-        return false;
-    }
-    have_intervals_in_facts(program.cons.as_slice())
-}
-
-/// The checked program that the signs build, if it passes.
-fn checked(alloc: Global, signs: &[u8], low: i32, high: i32) -> Result<Option<Checked>, NoMemory> {
-    let program = program(alloc, signs, low, high)?;
-    if !is_checkable(&program) {
-        return Ok(None);
-    }
-    match check(alloc, program) {
-        Ok(checked) => Ok(Some(checked)),
-        Err(_) => Ok(None),
-    }
+    Ok(builder.checked()?)
 }
 
 fn add_numbers(
@@ -326,22 +240,15 @@ fn add_numbers(
     Ok(())
 }
 
-/// A rule as `{` for a choice, its head, and its body behind a colon.
-fn add_rule(alloc: Global, out: &mut String, rule: &GroundRule) -> Result<(), NoMemory> {
-    if rule.choice {
-        out.push_str("{")?;
-    }
-    add_numbers(alloc, out, "|", rule.head.as_slice())?;
-    out.push_str(":")?;
-    add_numbers(alloc, out, "+", rule.pos.as_slice())?;
-    add_numbers(alloc, out, "-", rule.neg.as_slice())?;
-    out.push_str(" ")?;
-    Ok(())
-}
-
+/// Each rule as `{` for a choice, its head, and its body behind a colon.
 fn add_rules(alloc: Global, out: &mut String, rules: &[GroundRule]) -> Result<(), NoMemory> {
     for rule in rules {
-        add_rule(alloc, out, rule)?;
+        out.push_str(if rule.choice { "{" } else { "" })?;
+        add_numbers(alloc, out, "|", rule.head.as_slice())?;
+        out.push_str(":")?;
+        add_numbers(alloc, out, "+", rule.pos.as_slice())?;
+        add_numbers(alloc, out, "-", rule.neg.as_slice())?;
+        out.push_str(" ")?;
     }
     out.push_str("/")?;
     Ok(())
@@ -360,40 +267,26 @@ fn written(alloc: Global, game: &Game) -> Result<String, NoMemory> {
     Ok(out)
 }
 
-fn fault(alloc: Global, fault: &SizeFault) -> Result<String, NoMemory> {
-    match fault {
-        SizeFault::TooLarge(Which::Instances, count) => format!(in alloc; "instances {count}"),
-        SizeFault::TooLarge(_, count) => format!(in alloc; "another limit {count}"),
-        SizeFault::NoMemory => format!(in alloc; "memory"),
-    }
-}
-
-/// The game of a checked program with its count of instances in front, or why there is none.
-fn game_of(alloc: Global, checked: &Checked) -> Result<String, NoMemory> {
-    let bases = match bases(alloc, checked) {
-        Ok(bases) => bases,
-        Err(why) => return fault(alloc, &why),
-    };
-    let count = count(checked, &bases);
-    match ground(alloc, checked, bases) {
+/// The game of the signs with its count of instances in front, or the count with which it is refused.
+fn answer(alloc: Global, signs: &[u8], low: i32, high: i32) -> Result<String, Fail> {
+    let checked = checked(alloc, signs, low, high)?;
+    let bases = bases(alloc, &checked)?;
+    let count = count(&checked, &bases);
+    match ground(alloc, &checked, bases) {
         Ok(game) => {
             let game = written(alloc, &game)?;
-            format!(in alloc; "{count} {game}")
+            Ok(format!(in alloc; "{count} {game}")?)
         }
-        Err(why) => fault(alloc, &why),
-    }
-}
-
-/// What is said of the signs, where an interval has these ends.
-fn answer(alloc: Global, signs: &[u8], low: i32, high: i32) -> Result<String, NoMemory> {
-    match checked(alloc, signs, low, high)? {
-        Some(checked) => game_of(alloc, &checked),
-        None => format!(in alloc; "refused"),
+        Err(SizeFault::TooLarge(Which::Instances, past)) => Ok(format!(in alloc;
+            "instances {past}"
+        )?),
+        Err(SizeFault::TooLarge(_, past)) => Ok(format!(in alloc; "another limit {past}")?),
+        Err(SizeFault::NoMemory) => Err(Fail::from(AllocError)),
     }
 }
 
 // The numbers of the atoms are those of their order: by name, by arity, and by the arguments from the left.
-const ROWS: [(&[u8], &str); 21] = [
+const ROWS: [(&[u8], &str); 22] = [
     // Nothing, and rules without variables.
     (b"%", "0 E///"),
     (b"&%", "0 AE////"),
@@ -412,7 +305,7 @@ const ROWS: [(&[u8], &str); 21] = [
         b"1qh.2qh._q+_q+.%",
         "6 E/|0: |1: :+0+0 :+0+1 :+1+0 :+1+1 //",
     ),
-    // True comparisons are removed, and instances with a false one are left out; each operator by the order of constants.
+    // True comparisons are removed, and instances with a false one are left out; constants compare in their order.
     (b"1qh.2qh.Xq+X1=.%", "4 E/|0: |1: :+0 //"),
     (b"1qh.2qh.Xq+X1!.%", "4 E/|0: |1: :+1 //"),
     (b"1qh.2qh.Xq+X2<.%", "4 E/|0: |1: :+0 //"),
@@ -421,15 +314,17 @@ const ROWS: [(&[u8], &str); 21] = [
     (b"1qh.2qh.Xq+X2g.%", "4 E/|0: |1: :+1 //"),
     (b"aqh.9qh.Xq+X9>.%", "4 E/|1: |0: :+1 //"),
     // A choice has a rule per instance of each element, whose condition stands behind the body.
-    (b"1qh.XphXr-e1sh1t+eXq+}%", "3 E/|1: {|0:+1-2 {|3:+1+4 //"),
-    (b"1rh.XphXr+eqhes+}%", "3 E/|2: {|0:+3+2 {|1:+3 //"),
+    (b"1qh.XpXr-e1s1t+eXq+}%", "3 E/|1: {|0:+1-2 {|3:+1+4 //"),
+    (b"1rh.XpXr+eqes+}%", "3 E/|2: {|0:+3+2 {|1:+3 //"),
     // Without constants, what has variables has no instance and what has none has one.
-    (b"XphXr+eqhe}%", "1 E/{|0: //"),
+    (b"XpXr+eqe}%", "1 E/{|0: //"),
     (b"Xq+.ph.%", "1 E/|0: //"),
     (b"p+.%", "1 E/:+0 //"),
     // Intervals: in two arguments, and with swapped ends.
-    (b"[[ph.%", "9 E/|0: |1: |2: |3: |4: |5: |6: |7: |8: //"),
-    (b"1]ph.%", "0 E///"),
+    (b"[[pf%", "9 E/|0: |1: |2: |3: |4: |5: |6: |7: |8: //"),
+    (b"1]pf%", "0 E///"),
+    // A predicate is a name with its arity.
+    (b"1ph.12ph.%", "2 E/|0: |3: //"),
     // The universe grows from level to level, and the constraint part has that of all.
     (
         b"1ph.Xp+.%2qh.Xp+.&Xp+3q-.",
@@ -438,60 +333,69 @@ const ROWS: [(&[u8], &str); 21] = [
 ];
 
 #[test]
-fn writes_each_game(rt: HostRuntime) -> Result<(), NoMemory> {
+fn writes_each_game(rt: HostRuntime) -> Result<(), Fail> {
     let alloc = rt.alloc();
     for (signs, expected) in ROWS {
         let answer = answer(alloc, signs, 1, 3)?;
-        assert!(rt; answer.as_str() == expected);
+        assert_eq!(rt; answer.as_str(), expected);
     }
     Ok(())
 }
 
-/// The signs, as often as the number says.
-fn repeated(alloc: Global, signs: &[u8], times: u32) -> Result<Vec<u8>, NoMemory> {
-    let mut out = Vec::new(alloc);
-    for _ in 0..times {
-        out.extend_from_slice(signs)?;
+// Counts of the interval from 3 to 6 with others, and of the instances of a rule with one variable over all their integers.
+const COUNTS: [(&[u8], u64); 10] = [
+    // The same interval again and again, and one with swapped ends.
+    (b"[pf[pf[pf[pf%Xp+.", 20),
+    (b"]pf]pf%Xp+.", 0),
+    (b"[pf]pf%Xp+.", 8),
+    // Its first integers alone are there before, its last ones alone, those between them, and all but one.
+    (b"3pf4pf[pf%Xp+.", 10),
+    (b"5pf6pf[pf%Xp+.", 10),
+    (b"4pf5pf[pf%Xp+.", 10),
+    (b"3pf6pf[pf%Xp+.", 10),
+    (b"3pf4pf6pf[pf%Xp+.", 11),
+    // Its first integer alone is there, and symbols stand behind it.
+    (b"3pfapfbpfcpf[pf%Xp+.", 15),
+    // It stands within others, among symbols.
+    (b"apf2pf3pf4pf5pf6pf7pf[pf%Xp+.", 18),
+];
+
+#[test]
+fn counts_the_constants_of_intervals(rt: HostRuntime) -> Result<(), Fail> {
+    let alloc = rt.alloc();
+    for (signs, expected) in COUNTS {
+        let checked = checked(alloc, signs, 3, 6)?;
+        let bases = bases(alloc, &checked)?;
+        assert_eq!(rt; count(&checked, &bases), expected);
+        assert_eq!(rt; instance_count(&checked), expected);
     }
-    Ok(out)
+    Ok(())
 }
 
 // One fact of 512 times 512, as often as the number says; and sixteen variables.
 #[test]
-fn refuses_too_many_instances(rt: HostRuntime) -> Result<(), NoMemory> {
+fn refuses_too_many_instances(rt: HostRuntime) -> Result<(), Fail> {
     let alloc = rt.alloc();
-    let mut facts = repeated(alloc, b"[[ph.", 16)?;
-    facts.extend_from_slice(b"%")?;
-    let facts = answer(alloc, facts.as_slice(), 1, 512)?;
-    assert!(rt; facts.as_str() == "instances 4194304");
-    let variables = b"[ph.Ap+Bp+Cp+Dp+Ep+Fp+Gp+Hp+Ip+Jp+Kp+Lp+Mp+Np+Op+Pp+.%";
+    let facts = b"[[pf[[pf[[pf[[pf[[pf[[pf[[pf[[pf[[pf[[pf[[pf[[pf[[pf[[pf[[pf[[pf%";
+    let facts = answer(alloc, facts, 1, 512)?;
+    assert_eq!(rt; facts.as_str(), "instances 4194304");
+    let variables = b"[pfAp+Bp+Cp+Dp+Ep+Fp+Gp+Hp+Ip+Jp+Kp+Lp+Mp+Np+Op+Pp+.%";
     let variables = answer(alloc, variables, 1, 4000)?;
-    assert!(rt; variables.as_str() == "instances 1000000000000000000");
+    assert_eq!(rt; variables.as_str(), "instances 1000000000000000000");
     Ok(())
-}
-
-/// How many rules the game of the signs has.
-fn rule_count(alloc: Global, signs: &[u8], high: i32) -> Result<usize, NoMemory> {
-    let mut count = 0_usize;
-    if let Some(checked) = checked(alloc, signs, 1, high)? {
-        if let Ok(bases) = bases(alloc, &checked) {
-            if let Ok(game) = ground(alloc, &checked, bases) {
-                for rules in game.rules.as_slice() {
-                    count = count.saturating_add(rules.len());
-                }
-            }
-        }
-    }
-    Ok(count)
 }
 
 // Of 1999 constants: 1999 facts, 1999 times 1999 pairs, 1999 single ones, and one rule more.
 #[test]
-fn keeps_the_limit_on_instances(rt: HostRuntime) -> Result<(), NoMemory> {
+fn keeps_the_limit_on_instances(rt: HostRuntime) -> Result<(), Fail> {
     let alloc = rt.alloc();
-    let most = rule_count(alloc, b"[ph.Xp+Yp+.Xp+.q+.%", 1999)?;
-    assert!(rt; most == 4_000_000);
-    let more = answer(alloc, b"[ph.Xp+Yp+.Xp+.q+.q+.%", 1, 1999)?;
-    assert!(rt; more.as_str() == "instances 4000001");
+    let checked = checked(alloc, b"[pfXp+Yp+.Xp+.q+.%", 1, 1999)?;
+    let bases = bases(alloc, &checked)?;
+    let game = ground(alloc, &checked, bases)?;
+    let rules = game.rules.as_slice();
+    assert_eq!(rt; rules.len(), 2);
+    assert_eq!(rt; rules[0].len(), 4_000_000);
+    let more = answer(alloc, b"[pfXp+Yp+.Xp+.q+.q+.%", 1, 1999)?;
+    assert_eq!(rt; more.as_str(), "instances 4000001");
     Ok(())
 }

@@ -1,32 +1,21 @@
-//! The variables of a rule, each once, in the order of first occurrence. A checked rule has at most 16, so that they stand
-//! in an array.
+//! The variables of a rule, each once, in the order of first occurrence. A checked rule has at most 16, so that they
+//! stand in an array.
 ghost use Rattle.std.specs.Prelude.{◌≡◌, ◌++◌, map};
 ghost use Rattle.std.specs.List.{flat_map, fold};
 ghost use Rattle.asp_defs.specs.Instances.{same_variable, term_variables, atom_variables, literal_variables};
 ghost use Rattle.asp_defs.specs.Safety.{is_variable_of};
-ghost use Rattle.asp_ground.specs.Variables.{term_of, with_variable, disjunctive_variables, element_variables};
+ghost use Rattle.asp_check.specs.Variables.{term_of};
+ghost use Rattle.asp_ground.specs.Variables.{with_variable, disjunctive_variables, element_variables};
 
 use arrayvec::ArrayVec;
+use asp_check::Variable;
 use asp_defs::{Atom, Element, Literal, Term};
 
-/// A variable of a rule. A name borrows its bytes.
-#[derive(Debug, Clone, Copy)]
-pub enum Variable<'a> {
-    Named(&'a [u8]),
-    Anon(u32),
-}
-
-impl Default for Variable<'_> {
-    fn default() -> Self {
-        Variable::Anon(0)
-    }
-}
-
-/// One more than the most variables.
-const ROOM: usize = 17;
+/// Room for one more variable than a checked rule has at most.
+const VARIABLE_ROOM: usize = 17;
 
 /// Variables, each once.
-pub type Variables<'a> = ArrayVec<Variable<'a>, ROOM>;
+pub type Variables<'a> = ArrayVec<Variable<'a>, VARIABLE_ROOM>;
 
 /// Whether two variables are the same.
 pub fn is_same(left: Variable<'_>, right: Variable<'_>) -> bool
@@ -90,7 +79,8 @@ fn add_atom<'a>(found: &mut Variables<'a>, atom: &'a Atom)
 
 /// Adds the variables of a literal.
 fn add_literal<'a>(found: &mut Variables<'a>, literal: &'a Literal)
-    ensures { map term_of found.new.items ≡ fold with_variable (map term_of found.old.items) (literal_variables literal.now) }
+    ensures { map term_of found.new.items
+        ≡ fold with_variable (map term_of found.old.items) (literal_variables literal.now) }
 {
     match literal {
         Literal::Pos(atom) => add_atom(found, atom),
@@ -104,7 +94,8 @@ fn add_literal<'a>(found: &mut Variables<'a>, literal: &'a Literal)
 
 /// Adds the variables of atoms.
 fn add_atoms<'a>(found: &mut Variables<'a>, atoms: &'a [Atom])
-    ensures { map term_of found.new.items ≡ fold with_variable (map term_of found.old.items) (flat_map atom_variables atoms.now) }
+    ensures { map term_of found.new.items
+        ≡ fold with_variable (map term_of found.old.items) (flat_map atom_variables atoms.now) }
 {
     for atom in atoms {
         add_atom(found, atom);
@@ -113,7 +104,8 @@ fn add_atoms<'a>(found: &mut Variables<'a>, atoms: &'a [Atom])
 
 /// Adds the variables of literals.
 fn add_literals<'a>(found: &mut Variables<'a>, literals: &'a [Literal])
-    ensures { map term_of found.new.items ≡ fold with_variable (map term_of found.old.items) (flat_map literal_variables literals.now) }
+    ensures { map term_of found.new.items
+        ≡ fold with_variable (map term_of found.old.items) (flat_map literal_variables literals.now) }
 {
     for literal in literals {
         add_literal(found, literal);

@@ -1,6 +1,6 @@
 use Rattle.std.proofs.Common.{◌≡◌, ◌++◌, map, take}
 use Rattle.std.specs.List.{flat_map}
-use Rattle.asp_ground.specs.Variables.{term_of}
+use Rattle.asp_check.specs.Variables.{term_of}
 use Rattle.asp_ground.specs.Compiled.{comparisons_of}
 use Rattle.asp_ground.proofs.compile.add_comparisons.Given as goal
 

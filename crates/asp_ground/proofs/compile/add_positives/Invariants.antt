@@ -1,7 +1,7 @@
 use Rattle.std.proofs.Common.{◌≡◌, ◌++◌, map, take}
 use Rattle.std.specs.List.{flat_map}
 use Rattle.asp_defs.specs.Instances.{pos_atoms}
-use Rattle.asp_ground.specs.Variables.{term_of}
+use Rattle.asp_check.specs.Variables.{term_of}
 use Rattle.asp_ground.specs.Compiled.{atom_template}
 use Rattle.asp_ground.proofs.compile.add_positives.Given as goal
 

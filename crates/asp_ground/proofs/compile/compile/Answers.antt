@@ -5,7 +5,7 @@ use Rattle.asp_defs.specs.Instances.{pos_atoms, neg_atoms}
 use Rattle.asp_ground.specs.declared.template.AtomTemplate.{AtomTemplate}
 use Rattle.asp_ground.specs.declared.template.Comparison.{Comparison}
 use Rattle.asp_ground.specs.declared.template.Template.{Template}
-use Rattle.asp_ground.specs.Variables.{term_of}
+use Rattle.asp_check.specs.Variables.{term_of}
 use Rattle.asp_ground.specs.Compiled.{comparisons_of, atom_template}
 use Rattle.asp_ground.proofs.Steps.{two_adds, two_adds_mapped}
 use Rattle.asp_ground.proofs.compile.compile.Goals as goal

@@ -1,7 +1,7 @@
 use Rattle.std.proofs.Common.{ℤ, ◌∙◌, sym, ap, map, rules}
 use Rattle.asp_defs.specs.declared.ground.Const.TheVariants as const
 use Rattle.asp_ground.specs.declared.template.Slot.TheVariants.{Rank}
-use Rattle.asp_ground.specs.Variables.{term_of}
+use Rattle.asp_check.specs.Variables.{term_of}
 use Rattle.asp_ground.specs.Ranks.{rank_of}
 use Rattle.asp_ground.specs.Compiled.{slot_of}
 use Rattle.asp_ground.proofs.Integers.{passed}

@@ -1,5 +1,5 @@
 use Rattle.std.proofs.Common.{◌≡◌, map, take}
-use Rattle.asp_ground.specs.Variables.{term_of}
+use Rattle.asp_check.specs.Variables.{term_of}
 use Rattle.asp_ground.specs.Compiled.{slot_of}
 use Rattle.asp_ground.proofs.compile.slots_of.Given as goal
 

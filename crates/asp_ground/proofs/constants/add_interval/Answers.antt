@@ -4,11 +4,13 @@ use mir.Syntax.{w32}
 use mir.Val.{of_z, to_z}
 use Rattle.asp_defs.specs.declared.ground.Const.{Const}
 use Rattle.asp_defs.specs.declared.ground.Const.TheVariants as const
-use Rattle.asp_defs.specs.Constants.{integers_from, interval_length}
-use Rattle.asp_ground.specs.Ranks.{const_of}
+use Rattle.asp_defs.specs.Constants.{integers_from, interval, interval_length}
+use Rattle.asp_atoms.specs.declared.keys.Key.{Key}
+use Rattle.asp_atoms.specs.Keys.{const_of}
+use Rattle.asp_ground.specs.Gaps.{HasAll}
 use Rattle.asp_ground.specs.Counts.{Gathers}
-use Rattle.asp_ground.proofs.Integers.{passed}
-use Rattle.asp_ground.proofs.Gathered.{gathers_integer}
+use Rattle.asp_ground.proofs.Integers.{passed, told_both}
+use Rattle.asp_ground.proofs.Gathered.{gathers_integer, all_there}
 use Rattle.asp_ground.proofs.constants.add_interval.Goals as goal
 
 pub loop-step-preserved : goal.loop-step-preserved
@@ -26,3 +28,9 @@ returns c =
     ap (λ (z : ℤ). map const.Int (integers_from z c.loop-step.step)) (to_z-of_z w32 c.args.low c.ranges.low)
     ∙ ap (λ (n : ℕ). map const.Int (integers_from c.args.low n)) steps in
     subst (λ (cs : List Const). Gathers (map const_of c.args.found.now.items) (map const_of c.loop-step.found.items) cs) whole c.loop-step.invariant
+
+pub returns-then-has_interval : goal.returns-then-has_interval
+returns-then-has_interval c =
+    all_there (map const_of c.args.found.now.items) (map const.Int (interval c.args.low c.args.high)) c.requires
+    (subst (λ (keys : List Key). HasAll (map const_of keys) (map const.Int (interval c.args.low c.args.high))) c.as_slice.ensures.value
+    (told_both (λ (x y : ℤ). HasAll (map const_of c.as_slice.result.now) (map const.Int (interval x y))) c.args.low c.args.high c.ranges.low c.ranges.high (c.has_interval.ensures c.if-has_interval.true)))

@@ -1,6 +1,7 @@
 use Rattle.std.proofs.Common.{◌≡◌, ◌*◌, take}
 use Rattle.std.specs.List.{fold}
-use Rattle.asp_ground.specs.Counts.{shown, choice_count}
+use Rattle.asp_atoms.specs.Counts.{shown}
+use Rattle.asp_ground.specs.Counts.{choice_count}
 use Rattle.asp_ground.proofs.counts.fact_count.Given as goal
 
 abbrev pub invariant-loop-term : goal.invariant-loop-term

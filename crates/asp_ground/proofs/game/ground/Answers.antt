@@ -1,5 +1,4 @@
-use Rattle.std.proofs.Common.{◌≡◌, ◌≤◌, ◌∙◌, sym, ap, subst, List, map, arith}
-use Rattle.asp_defs.specs.declared.faults.Which.TheVariants.{Instances}
+use Rattle.std.proofs.Common.{◌≡◌, ◌∙◌, sym, ap, subst, List, map}
 use Rattle.asp_defs.specs.declared.ground.Bases.{Bases}
 use Rattle.asp_defs.specs.declared.ground.Game.{Game}
 use Rattle.asp_defs.specs.declared.ground.GroundRule.{GroundRule}
@@ -13,7 +12,7 @@ use Rattle.asp_atoms.specs.declared.vocabularies.Vocabulary.{Vocabulary}
 use Rattle.asp_atoms.specs.Vocabularies.{vocabulary_of}
 use Rattle.asp_ground.specs.Ranks.{IsOrdered}
 use Rattle.asp_ground.specs.Compiled.{compiled_levels}
-use Rattle.asp_ground.proofs.Levels.{vocabulary_is_ordered, levels_are, limit_kept}
+use Rattle.asp_ground.proofs.Levels.{vocabulary_is_ordered, levels_are, past_cut}
 use Rattle.asp_ground.proofs.game.ground.Goals as goal
 
 abbrev make_game : List Quant → Bases → List (List GroundRule) → Game
@@ -34,13 +33,11 @@ returns c =
     ∙ (ap (λ (v : Vocabulary). compiled_levels v c.program-program.result.now) c.in_ok-vocabulary.ensures.same
     ∙ (ap (compiled_levels (vocabulary_of c.args.checked.now)) c.program-program.ensures.program
     ∙ levels_are c.args.checked.now c.program-program.ensures.checked c.program-program.ensures.checkable c.requires.small)) in
-    let count = c.count-instances.ensures in
-    let few : instance_total c.args.checked.now ≤ 4000000 = omega (arith, count) in
     record {
       game =
           ap (λ (q : List Quant). make_game q c.args.bases c.in_ok-rules.rules) quants
           ∙ (ap (λ (b : Bases). make_game (map (λ (part : Part). part.quant) c.args.checked.now.levels) b c.in_ok-rules.rules) c.requires.bases
           ∙ ap (λ (r : List (List GroundRule)). make_game (map (λ (part : Part). part.quant) c.args.checked.now.levels) (bases_of c.args.checked.now) r) rules);
-      small = limit_kept Instances (instance_total c.args.checked.now) few;
+      small = sym (past_cut (instance_total c.args.checked.now) c.instance_count.result c.instance_count.ensures) ∙ (sym c.past_limit.ensures ∙ c.in_default.is);
       refused = tt;
     }

@@ -1,23 +1,24 @@
-use Rattle.std.proofs.Common.{◌+◌, ◌-◌, ◌/◌, ◌<◌, length, sym, arith}
-use Rattle.asp_defs.specs.Bases.{predicate_cmp}
+use Rattle.std.proofs.Common.{ℕ, ◌≡◌, ◌∙◌, sym, List, Ok, Err, rules}
+use Rattle.std.proofs.lemmas.Fn.{always_returns_same}
+use Rattle.std.proofs.lemmas.List.{length-map}
+use Rattle.asp_defs.specs.Bases.{Predicate, predicate_cmp}
 use Rattle.asp_atoms.specs.Vocabularies.{unnumbered}
-use Rattle.asp_ground.proofs.Orders.{make_predicate, predicate_total}
-use Rattle.asp_ground.proofs.Ascending.{halves_lower, halves_upper, halves_end, found_here}
+use Rattle.asp_atoms.proofs.Orders.{predicate_lawful}
+use Rattle.asp_atoms.proofs.Positions.{found_by}
 use Rattle.asp_ground.proofs.ranks.predicate_place.Goals as goal
 
-pub halves-preserved-in-Less : goal.halves-preserved-in-Less
-halves-preserved-in-Less c =
-    halves_lower predicate_cmp unnumbered (make_predicate c.args.name.now c.args.arity) c.args.predicates.now c.halves.low c.halves.high (c.halves.low + (c.halves.high - c.halves.low) / 2) c.index-predicates-middle.result predicate_total c.requires c.halves.invariant (omega arith) (omega arith) c.index-predicates-middle.is (sym c.in-Less.ensures)
+abbrev sought : List ℕ → ℕ → Predicate
+sought name arity = record { name = name; arity = arity }
 
-pub returns-in-Equal : goal.returns-in-Equal
-returns-in-Equal c =
-    let within = c.halves.invariant.within in
-    let inside : (c.halves.low + (c.halves.high - c.halves.low) / 2) < length c.args.predicates.now = omega (arith, within) in
-    sym (found_here predicate_cmp unnumbered (make_predicate c.args.name.now c.args.arity) c.args.predicates.now (c.halves.low + (c.halves.high - c.halves.low) / 2) c.index-predicates-middle.result predicate_total c.requires inside c.index-predicates-middle.is (sym c.in-Equal.ensures))
+pub returns-in-Ok : goal.returns-in-Ok
+returns-in-Ok c =
+    sym ((found_by predicate_lawful unnumbered c.args.predicates.now c.requires (sought c.args.name.now c.args.arity) (Ok c.in-Ok.place) c.in-Ok.ensures.bound
+    (c.in-Ok.ensures.position (λ other. predicate_cmp (unnumbered other) (sought c.args.name.now c.args.arity))
+    (always_returns_same _ (λ a r. r ≡ predicate_cmp (unnumbered a.0.now) (sought c.args.name.now c.args.arity)) _ (λ a r f k. search rules)))).1)
 
-pub halves-preserved : goal.halves-preserved
-halves-preserved c =
-    halves_upper predicate_cmp unnumbered (make_predicate c.args.name.now c.args.arity) c.args.predicates.now c.halves.low c.halves.high (c.halves.low + (c.halves.high - c.halves.low) / 2) c.index-predicates-middle.result predicate_total c.requires c.halves.invariant (omega arith) (omega arith) c.index-predicates-middle.is (sym c.in-Greater.ensures)
-
-pub returns : goal.returns
-returns c = sym (halves_end predicate_cmp unnumbered (make_predicate c.args.name.now c.args.arity) c.args.predicates.now c.halves.low c.halves.high c.halves.invariant c.halves-test.false)
+pub returns-in-Err : goal.returns-in-Err
+returns-in-Err c =
+    sym (found_by predicate_lawful unnumbered c.args.predicates.now c.requires (sought c.args.name.now c.args.arity) (Err c.in-Err.field-0) c.in-Err.ensures.bound
+    (c.in-Err.ensures.position (λ other. predicate_cmp (unnumbered other) (sought c.args.name.now c.args.arity))
+    (always_returns_same _ (λ a r. r ≡ predicate_cmp (unnumbered a.0.now) (sought c.args.name.now c.args.arity)) _ (λ a r f k. search rules)))
+    ∙ length-map c.args.predicates.now unnumbered)

@@ -2,7 +2,8 @@ use Rattle.std.proofs.Common.{◌∙◌, refl, ap, List, ◌++◌, map, length, 
 use Rattle.std.proofs.lemmas.Result.{IfOk-equal}
 use Rattle.asp_defs.specs.declared.ground.GroundRule.{GroundRule}
 use Rattle.asp_ground.specs.Ranks.{capped}
-use Rattle.asp_ground.specs.Variables.{term_of, found_disjunctive}
+use Rattle.asp_check.specs.Variables.{term_of}
+use Rattle.asp_ground.specs.Variables.{found_disjunctive}
 use Rattle.asp_ground.specs.Templates.{instances_over}
 use Rattle.asp_ground.specs.Compiled.{schema_instances}
 use Rattle.asp_ground.proofs.Templates.{disjunctive_over}

@@ -4,7 +4,8 @@ use Rattle.asp_defs.specs.declared.ground.GroundRule.{GroundRule}
 use Rattle.asp_defs.specs.declared.syntax.Literal.{Literal}
 use Rattle.asp_ground.specs.declared.template.AtomTemplate.{AtomTemplate}
 use Rattle.asp_ground.specs.Ranks.{capped}
-use Rattle.asp_ground.specs.Variables.{term_of, found_element}
+use Rattle.asp_check.specs.Variables.{term_of}
+use Rattle.asp_ground.specs.Variables.{found_element}
 use Rattle.asp_ground.specs.Templates.{instances_over}
 use Rattle.asp_ground.specs.Compiled.{schema_instances}
 use Rattle.asp_ground.proofs.Templates.{compiled, element_over}

@@ -1,7 +1,8 @@
 use Rattle.std.proofs.Common.{◌≡◌, map, take}
 use Rattle.std.specs.List.{flat_map, fold}
 use Rattle.asp_defs.specs.Instances.{literal_variables}
-use Rattle.asp_ground.specs.Variables.{term_of, with_variable}
+use Rattle.asp_check.specs.Variables.{term_of}
+use Rattle.asp_ground.specs.Variables.{with_variable}
 use Rattle.asp_ground.proofs.variables.add_literals.Given as goal
 
 abbrev pub invariant-loop-literal : goal.invariant-loop-literal

@@ -1,6 +1,6 @@
 use Rattle.std.proofs.Common.{sym, arith}
 use Rattle.asp_defs.specs.Instances.{same_variable}
-use Rattle.asp_ground.specs.Variables.{term_of}
+use Rattle.asp_check.specs.Variables.{term_of}
 use Rattle.asp_ground.proofs.Steps.{mapped_any}
 use Rattle.asp_ground.proofs.variables.is_among.Goals as goal
 

@@ -6,17 +6,19 @@ use Rattle.asp_defs.specs.declared.syntax.Part.{Part}
 use Rattle.asp_defs.specs.declared.syntax.Rule.{Rule}
 use Rattle.asp_defs.specs.declared.syntax.Program.{Program}
 use Rattle.asp_defs.specs.Constants.{const_cmp, rule_constants, level_rules}
-use Rattle.asp_ground.specs.declared.ranks.Key.{Key}
-use Rattle.asp_ground.specs.Ranks.{IsAscending, const_of}
-use Rattle.asp_ground.specs.Counts.{shown, with_constant, rule_count, counted_from}
+use Rattle.asp_atoms.specs.declared.keys.Key.{Key}
+use Rattle.asp_atoms.specs.Ascending.{Ascends}
+use Rattle.asp_atoms.specs.Keys.{const_of}
+use Rattle.asp_atoms.specs.Counts.{shown}
+use Rattle.asp_ground.specs.Counts.{with_constant, rule_count, counted_from}
 use Rattle.asp_ground.proofs.Counted.{total_counted}
-use Rattle.asp_ground.proofs.counts.count.Goals as goal
+use Rattle.asp_ground.proofs.counts.instance_count.Goals as goal
 
 abbrev rules_of : List Part → List (List Rule)
 rules_of levels = map (λ (part : Part). part.rules) levels
 
-nothing_ascends : IsAscending const_cmp []
-nothing_ascends = record { below = λ i j d h l. absurd (omega arith) }
+nothing_ascends : Ascends const_cmp []
+nothing_ascends = tt
 
 counted : (count next part S R : ℕ) → part ≡ shown S → next ≡ shown (count + part) → shown (next + R) ≡ shown (count + (S + R))
 counted count next part S R e f = omega (arith, e, f)
@@ -35,7 +37,7 @@ add_rules-requires c = c.loop-level.invariant.0
 
 pub loop-level-init : goal.loop-level-init
 loop-level-init c = (
-  subst (λ (keys : List Key). IsAscending const_cmp (map const_of keys)) (sym c.new-found.ensures) nothing_ascends,
+  subst (λ (keys : List Key). Ascends const_cmp (map const_of keys)) (sym c.new-found.ensures) nothing_ascends,
   ap (λ (keys : List Key). shown (0 + counted_from (map const_of keys) (rules_of c.as_slice-levels.result.now ++ c.program-program.result.now.cons ∷ []))) c.new-found.ensures
       ∙ (ap shown (zero-add (counted_from [] (rules_of c.as_slice-levels.result.now ++ c.program-program.result.now.cons ∷ [])))
       ∙ ap (λ (levels : List Part). shown (counted_from [] (rules_of levels ++ c.program-program.result.now.cons ∷ []))) c.as_slice-levels.ensures),
@@ -66,4 +68,4 @@ returns c =
     ∙ (ap (λ (levels : List Part). shown (c.loop-level.count + counted_from (map const_of c.loop-level.found.items) (rules_of levels ++ c.program-program.result.now.cons ∷ []))) (sym (drop_all c.loop-level.level-index c.as_slice-levels.result.now (omega arith)))
     ∙ (c.loop-level.invariant.1
     ∙ ap shown (ap (λ (p : Program). counted_from [] (level_rules p)) c.program-program.ensures.program
-    ∙ total_counted c.args.checked.now c.program-program.ensures.checked c.program-program.ensures.checkable c.requires.small)))))
+    ∙ total_counted c.args.checked.now c.program-program.ensures.checked c.program-program.ensures.checkable c.requires)))))

@@ -1,6 +1,0 @@
-use Rattle.std.proofs.Common.{◌≡◌, ◌^◌}
-use Rattle.asp_ground.specs.Counts.{shown}
-use Rattle.asp_ground.proofs.counts.power.Given as goal
-
-abbrev pub invariant-loop-place : goal.invariant-loop-place
-invariant-loop-place l = l.count ≡ shown (l.size ^ l._place)
