@@ -165,7 +165,7 @@ none_not f (x ∷ xs) = go (f x) (list_all (λ a. not (f a)) xs) ∙ ap (λ t. f
     go false q = refl
 
 -- two masks have no bit in common
-no_common : (m k : ℕ) → ((a : ℕ) → bit m a ≡ true → bit k a ≡ false) → bit_and m k ≡ 0
+pub no_common : (m k : ℕ) → ((a : ℕ) → bit m a ≡ true → bit k a ≡ false) → bit_and m k ≡ 0
 no_common m k h = same_from_bits (bit_and m k) 0 (λ a. at a)
   where
     at : (a : ℕ) → bit_at (bit_and m k) a ≡ bit_at 0 a
@@ -177,7 +177,7 @@ no_common m k h = same_from_bits (bit_and m k) 0 (λ a. at a)
           | inr unset ↦ let off = bit_zero m a unset in omega arith
         ]
 
-no_common_back : (m k : ℕ) → bit_and m k ≡ 0 → (a : ℕ) → bit m a ≡ true → bit k a ≡ false
+pub no_common_back : (m k : ℕ) → bit_and m k ≡ 0 → (a : ℕ) → bit m a ≡ true → bit k a ≡ false
 no_common_back m k h a set_bit =
     let both = bit_at_and m k a in
     let none : bit_at (bit_and m k) a ≡ 0 = ap (λ x. bit_at x a) h ∙ bit_at-zero a in

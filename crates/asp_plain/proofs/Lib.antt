@@ -1,6 +1,8 @@
 pub mod Atoms
 pub mod Beside
+pub mod Between
 pub mod Bounds
+pub mod Broken
 pub mod Checking
 pub mod Claims
 pub mod Coherence
@@ -10,7 +12,5 @@ pub mod Listed
 pub mod Minimal
 pub mod Models
 pub mod Moves
-pub mod Parts
 pub mod Repeated
 pub mod Standing
-pub mod Trying

@@ -1,7 +1,8 @@
 -- Rules and answer sets over sets of atoms, where a set is a mask: bit a of it is set where atom a is a member. All
 -- definitions are transparent.
-use Rattle.std.specs.Prelude.{◌==◌, ◌^◌, ℕ, Bool, not, ◌&&◌, ◌||◌, List, map, Contains}
+use Rattle.std.specs.Prelude.{◌≡◌, ◌==◌, ◌+◌, ◌^◌, ℕ, Bool, not, ◌&&◌, ◌||◌, List, map, Contains}
 use Rattle.std.specs.List.{list_any, list_all, filter, fold}
+use Rattle.std.specs.Int.{bit_at}
 use Rattle.std.specs.Int.RustNames.{bit_and, bit_or}
 use Rattle.asp_defs.specs.declared.ground.GroundRule.{GroundRule}
 use Rattle.asp_defs.specs.Interpretations.{holds, subsets}
@@ -44,6 +45,30 @@ satisfies_part rule set small =
 -- whether a set is a model of the reduct by `set`
 abbrev pub is_model_of_reduct : List MaskedRule → ℕ → ℕ → Bool
 is_model_of_reduct rules set small = list_all (λ rule. satisfies_part rule set small) rules
+
+-- whether each set that has `least` and lies within `most` satisfies what the reduct by `set` has of a rule, whatever else
+-- it has
+abbrev pub is_settled : MaskedRule → ℕ → ℕ → ℕ → Bool
+is_settled rule set least most =
+    not (bit_and rule.negative set == 0)
+    || ((rule.choice && (bit_and rule.head set == 0))
+    || (not (bit_and rule.positive most == rule.positive) || not (bit_and rule.head least == 0)))
+
+-- whether a set other than `set` has `least`, lies within `most` and is a model of the reduct by `set`
+abbrev pub is_other_model : List MaskedRule → ℕ → ℕ → ℕ → ℕ → Bool
+is_other_model rules set least most small =
+    (bit_and least small == least)
+    && ((bit_and small most == small) && (not (small == set) && is_model_of_reduct rules set small))
+
+-- whether there is one
+abbrev pub has_other_model : List MaskedRule → ℕ → ℕ → ℕ → Bool
+has_other_model rules set least most = list_any (is_other_model rules set least most) (numbers_from 0 (most + 1))
+
+-- a number is one bit of a mask
+pub record IsBitOf (mask bit : ℕ) : Type 0 where
+  pub place : ℕ
+  pub power : bit ≡ 2 ^ place
+  pub there : bit_at mask place ≡ 1
 
 -- whether a set has the outer move, is a part of `set`, and is a model of the reduct by `set`
 abbrev pub is_model_between : List MaskedRule → ℕ → ℕ → ℕ → Bool

@@ -13,9 +13,13 @@ use std::alloc::Global;
 /// first, since it fails soonest.
 #[derive(Clone, Copy, PartialEq, Eq, PartialOrd, Ord)]
 pub struct MaskedRule {
+    /// The atoms that its body wants true.
     pub positive: u32,
+    /// The atoms that its body wants false.
     pub negative: u32,
+    /// The atoms one of which has to be true where the body is.
     pub head: u32,
+    /// Whether it leaves its head's one atom free.
     pub choice: bool,
 }
 

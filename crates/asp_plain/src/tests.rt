@@ -7,10 +7,11 @@ ghost use Rattle.std.specs.Prelude.{◌≡◌, ◌≤◌, IsTrue, Some, length};
 ghost use Rattle.std.specs.List.{slice_get};
 ghost use Rattle.asp_defs.specs.declared.syntax.Quant.TheVariants.{Exists};
 ghost use Rattle.asp_defs.specs.Games.{IsValid};
+ghost use Rattle.asp_plain.specs.Masks.{most_masked};
 
 mod valid;
 
-use crate::{coherent, listing};
+use crate::{MOST_ATOMS, coherent, listing};
 use asp_bits::Bits;
 use asp_defs::{Bases, Game, GroundAtom, GroundRule, List, Name, NoMemory, Quant};
 use std::alloc::Global;
@@ -163,7 +164,7 @@ fn is_existential(game: &Game) -> bool
 /// The sets of the listing in a row; nothing where the first level is universal.
 fn listed(alloc: Global, game: &Game) -> Result<Vec<u8>, NoMemory>
     requires valid { IsValid game.now }
-    requires few { length game.now.bases.atoms ≤ 20 }
+    requires few { length game.now.bases.atoms ≤ most_masked }
 {
     let mut text = Vec::new(alloc);
     if is_existential(game) {
@@ -173,6 +174,20 @@ fn listed(alloc: Global, game: &Game) -> Result<Vec<u8>, NoMemory>
         }
     }
     Ok(text)
+}
+
+/// The verdict and the listing of a valid game; none of another.
+fn outcome(alloc: Global, program: &str, bases: &str) -> Result<Option<(bool, Vec<u8>)>, NoMemory> {
+    let game = game(alloc, program, bases)?;
+    if !is_valid(&game) {
+        return Ok(None);
+    }
+    if game.bases.atoms.len() > MOST_ATOMS {
+        return Ok(None);
+    }
+    let verdict = coherent(alloc, &game)?;
+    let sets = listed(alloc, &game)?;
+    Ok(Some((verdict, sets)))
 }
 
 #[test]
@@ -197,15 +212,48 @@ fn decides_and_lists(rt: HostRuntime) -> Result<(), Fail> {
         ("E{b}./A{a}./C:-a,~b.", "/b/ab/ab", true, "{b}"),
         ("A{a}./Eb:-~a./C:-~b.", "/a/ab/ab", false, ""),
         ("Ea|b./Ea|b|c./C", "/ab/abc/abc", true, "{b}{a}"),
+        ("E/C", "//", true, "{}"),
+        (
+            "Ea|b|c.a:-b.b:-c.c:-a.:-~a.:-~b.:-~c./C",
+            "/abc/abc",
+            true,
+            "{abc}",
+        ),
+        // Facts over 1 to 4, and a choice of those above 2.
+        (
+            "Ea.b.c.d.{g}:-c.{h}:-d./C",
+            "/abcdefgh/abcdefgh",
+            true,
+            "{abcd}{abcdh}{abcdg}{abcdgh}",
+        ),
+        ("Ea.b.c:-a.c:-b./C", "/abc/abc", true, "{abc}"),
+        // An incoherent one, a universal one, three levels, and lower atoms in a choice and in heads.
+        ("E{a}./C:-a.:-~a.", "/a/a", false, ""),
+        ("A{a}./C:-a.", "/a/a", false, ""),
+        (
+            "E{a}./A{b}./E{c}./C:-b,~c.:-c,~b.",
+            "/a/ab/abc/abc",
+            true,
+            "{}{a}",
+        ),
+        ("E{a}./E{a}.b:-a./C:-~b.", "/a/ab/ab", true, "{a}"),
+        // Smaller sets that break one rule after another: only the empty one is a model, or none is.
+        (
+            "E{a}:-h.{b}:-h.{c}:-h.{d}:-h.{e}:-h.{f}:-h.{g}:-h.h:-a.h:-b.h:-c.h:-d.h:-e.h:-f.h:-g.:-~h./C",
+            "/abcdefgh/abcdefgh",
+            false,
+            "",
+        ),
+        (
+            "Ea|h.h:-a.a:-h.{b}:-h.{c}:-h.{d}:-h.{e}:-h.{f}:-h.{g}:-h.b:-a,c.c:-a,d.d:-a,e.e:-a,f.f:-a,g./C:-~g.",
+            "/abcdefgh/abcdefgh",
+            true,
+            "{abcdefgh}",
+        ),
     ];
     for (program, bases, verdict, sets) in rows {
-        let game = game(rt.alloc(), program, bases)?;
-        assert!(rt;
-            is_valid(&game) && game.bases.atoms.len() <= 20,
-            "{program}"
-        );
-        assert_eq!(rt; coherent(rt.alloc(), &game)?, verdict, "{program}");
-        let text = listed(rt.alloc(), &game)?;
+        let (answer, text) = outcome(rt.alloc(), program, bases)?.expect(&rt, program);
+        assert_eq!(rt; answer, verdict, "{program}");
         assert_eq!(rt; text.as_slice(), sets.as_bytes(), "{program}");
     }
     Ok(())

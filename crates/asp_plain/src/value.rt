@@ -1,8 +1,7 @@
 // The value of a set by trying every set of atoms.
-ghost use Rattle.std.specs.Prelude.{◌≡◌, ◌==◌, ◌&&◌, ℕ, true, not, IsTrue, bit_and};
-ghost use Rattle.std.specs.Int.{IsPowerOfTwo};
+ghost use Rattle.std.specs.Prelude.{◌≡◌, ◌<◌, not, position, bit_and};
 ghost use Rattle.asp_plain.specs.Levels.{is_claimed, masked_value, settling};
-ghost use Rattle.asp_plain.specs.Masks.{satisfies_part, is_model_of_reduct, has_smaller_model as has_smaller, is_answer, candidates};
+ghost use Rattle.asp_plain.specs.Masks.{satisfies_part, is_model_of_reduct, is_settled as is_settled_by, IsBitOf, has_other_model, has_smaller_model as has_smaller, is_answer, candidates};
 
 use crate::masks::{Level, MaskedRule};
 use asp_defs::Quant;
@@ -24,62 +23,67 @@ fn is_model(rules: &[MaskedRule], set: u32, small: u32) -> bool
     rules.iter().all(|rule| satisfies(rule, set, small))
 }
 
-/// Whether the set is one atom.
-fn is_one_atom(set: u32) -> bool
-    ensures { IsTrue result → IsPowerOfTwo set }
+/// Whether each set that has `least` and lies within `most` satisfies what the reduct by `set` has of the rule, whatever
+/// else it has: such a rule can be left out.
+fn is_settled(rule: &MaskedRule, set: u32, least: u32, most: u32) -> bool
+    ensures { result ≡ is_settled_by rule.now set least most }
 {
-    let lowest = set.trailing_zeros();
-    lowest < u32::BITS && set == 1 << lowest
+    rule.negative & set != 0
+        || (rule.choice && rule.head & set == 0)
+        || rule.positive & most != rule.positive
+        || rule.head & least != 0
 }
 
-/// Whether the reduct by `set` has a rule without a body for this rule.
-fn loses_its_body(rule: &MaskedRule, set: u32) -> bool
-    ensures { result ≡ ((rule.now.positive == 0)
-        && ((bit_and rule.now.negative set == 0) && not (rule.now.choice && (bit_and rule.now.head set == 0)))) }
+/// The place of the first rule that isn't settled.
+fn first_unsettled(rules: &[MaskedRule], set: u32, least: u32, most: u32) -> Option<usize>
+    ensures { result ≡ position (λ rule. not (is_settled_by rule set least most)) rules.now }
 {
-    rule.positive == 0 && rule.negative & set == 0 && !(rule.choice && rule.head & set == 0)
+    rules
+        .iter()
+        .position(|rule| !is_settled(rule, set, least, most))
 }
 
-/// Whether the reduct by `set` has a fact for this rule, so that each of the reduct's models has its head's one atom.
-fn is_fact(rule: &MaskedRule, set: u32) -> bool
-    ensures { IsTrue result → ((small : ℕ) → satisfies_part rule.now set small ≡ true
-        → bit_and rule.now.head small ≡ rule.now.head) }
+/// The bit of one of the atoms.
+fn first_bit(atoms: u32) -> u32
+    requires { 0 < atoms }
+    ensures { IsBitOf atoms result }
 {
-    loses_its_body(rule, set) && is_one_atom(rule.head)
+    1u32 << atoms.trailing_zeros()
 }
 
-/// The atoms of the facts of the reduct by `set`: each of the reduct's models has them.
-fn facts(rules: &[MaskedRule], set: u32) -> u32
-    ensures { (small : ℕ) → is_model_of_reduct rules.now set small ≡ true → bit_and result small ≡ result }
+/// Whether a set other than `set` that has `least` and lies within `most` is a model of the reduct by `set`.
+///
+/// The first rule that isn't settled decides what is tried: an atom of it that `most` has and `least` lacks, in and then out.
+/// Where there is none, each of the sets breaks the rule. Rules that are settled once stay so, and are left out.
+fn has_model_between(rules: &[MaskedRule], set: u32, least: u32, most: u32) -> bool
+    requires least { bit_and least most ≡ least }
+    requires most { bit_and most set ≡ most }
+    ensures { result ≡ has_other_model rules.now set least most }
 {
-    let mut facts = 0;
-    for rule in rules {
-        if is_fact(rule, set) {
-            facts |= rule.head;
-        }
+    let Some(place) = first_unsettled(rules, set, least, most) else {
+        return least != set;
+    };
+    let rule = rules[place];
+    let open = (rule.positive | rule.head) & (most ^ least);
+    if open == 0 {
+        return false;
     }
-    facts
+    let bit = first_bit(open);
+    if has_model_between(&rules[place..], set, least | bit, most) {
+        return true;
+    }
+    has_model_between(&rules[place..], set, least, most ^ bit)
 }
 
 /// Whether a proper subset of `set` is a model of the reduct by `set`, among those that have the outer move: others don't
-/// satisfy the facts that fix it. It tries what `set` has beside the outer move and the reduct's facts, part by part.
+/// satisfy the facts that fix it.
 fn has_smaller_model(rules: &[MaskedRule], outer: u32, set: u32) -> bool
     ensures { result ≡ has_smaller rules.now outer set }
 {
-    let needed = outer | facts(rules, set);
-    if needed & set != needed {
+    if outer & set != outer {
         return false;
     }
-    let free = set ^ needed;
-    let mut part = free;
-    while part != 0 {
-        // The greatest part of `free` below this one.
-        part = (part - 1) & free;
-        if is_model(rules, set, needed | part) {
-            return true;
-        }
-    }
-    false
+    has_model_between(rules, set, outer, set)
 }
 
 /// Whether `set`, which has the outer move, is an answer set of the rules with the outer move fixed.

@@ -4,7 +4,16 @@ ghost use Rattle.std.specs.List.{list_all};
 ghost use Rattle.std.specs.Ordering.{is_lt};
 ghost use Rattle.asp_defs.specs.Constants.{atom_cmp};
 ghost use Rattle.asp_defs.specs.Interpretations.{holds};
-ghost use Rattle.asp_defs.specs.Games.{IsValid, rule_atoms, atoms_ascend as atoms_ascend_in, ascends as ascends_in, within as is_within, nested as is_nested, is_formed as is_formed_rule, is_constraint as is_constraint_rule};
+ghost use Rattle.asp_defs.specs.Games.{
+  IsValid,
+  rule_atoms,
+  atoms_ascend as atoms_ascend_in,
+  ascends as ascends_in,
+  within as is_within,
+  nested as is_nested,
+  is_formed as is_formed_rule,
+  is_constraint as is_constraint_rule,
+};
 ghost use Rattle.asp_plain.specs.Checked.{HasCounts, HasOrder, HasForms};
 
 use asp_defs::{Game, GroundAtom, GroundRule, List};
