@@ -3,7 +3,6 @@ use Rattle.std.specs.Prelude.{◌≡◌, ◌<◌, ◌≤◌, Some, None}
 use Rattle.asp_defs.specs.declared.faults.SizeFault.{SizeFault}
 use Rattle.asp_defs.specs.declared.faults.SizeFault.TheVariants.{TooLarge, NoMemory}
 use Rattle.asp_defs.specs.declared.syntax.Program.{Program}
-use Rattle.asp_defs.specs.Bases.{bases_of}
 use Rattle.asp_defs.specs.Games.{game_of}
 use Rattle.asp_defs.specs.Sizes.{atom_total, game_too_large}
 use Rattle.asp_defs.specs.Values.{is_coherent}
@@ -17,9 +16,9 @@ abbrev pub IsTooLarge : Program → SizeFault → Type 0
 IsTooLarge p (TooLarge which count) = game_too_large p ≡ Some (which, count)
 IsTooLarge p NoMemory = Unit {0}
 
--- a program stands beside its bases, and its game keeps the limits
+-- a program stands beside the number of its atoms, and its game keeps the limits
 pub record IsMeasured (accepted : Accepted) : Type 0 where
-  pub bases : accepted.bases ≡ bases_of accepted.checked
+  pub atoms : accepted.atoms ≡ atom_total accepted.checked
   pub small : game_too_large accepted.checked ≡ None
 
 -- what is said of a program's coherence is right

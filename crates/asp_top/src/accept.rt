@@ -6,21 +6,21 @@ ghost use Rattle.asp_top.specs.Replies.{IsRefusedSo};
 ghost use Rattle.asp_top.specs.Solved.{IsMeasured, IsTooLarge};
 
 use crate::refusal::Refusal;
-use asp_atoms::bases;
+use asp_atoms::atom_count;
 use asp_check::{Checked, check};
-use asp_defs::{Bases, SizeFault, Which};
-use asp_ground::count;
+use asp_defs::{SizeFault, Which};
+use asp_ground::instance_count;
 use asp_print::Line;
 use asp_read::read;
 use std::alloc::Global;
 
-/// The program of an accepted text, and its bases.
+/// The program of an accepted text, and how many atoms it has.
 #[derive(Drop)]
 pub struct Accepted {
     /// The program.
     pub checked: Checked,
-    /// The program's bases.
-    pub bases: Bases,
+    /// How many atoms its last base has.
+    pub atoms: u32,
 }
 
 /// The program of the text, where it passes the checks. The bytes are given up.
@@ -40,7 +40,8 @@ fn checked(alloc: Global, bytes: Vec<u8>) -> Result<Checked, Refusal>
     Ok(check(alloc, program)?)
 }
 
-/// The program with its bases, where its game keeps the limits. Nothing is instantiated for it.
+/// The program with the number of its atoms, where its game keeps the limits. Everything is counted, and no atom and no
+/// instance is made.
 ///
 /// # Errors
 ///
@@ -51,10 +52,10 @@ fn measured(alloc: Global, checked: Checked) -> Result<Accepted, SizeFault>
     ensures measured { IfOk result IsMeasured }
     ensures refused { IfErr result (IsTooLarge checked) }
 {
-    let bases = bases(alloc, &checked)?;
-    match Which::Instances.past_limit(count(&checked, &bases)) {
+    let atoms = atom_count(alloc, &checked)?;
+    match Which::Instances.past_limit(instance_count(&checked)) {
         Some((which, count)) => Err(SizeFault::TooLarge(which, count)),
-        None => Ok(Accepted { checked, bases }),
+        None => Ok(Accepted { checked, atoms }),
     }
 }
 

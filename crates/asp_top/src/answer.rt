@@ -1,4 +1,4 @@
-//! What a run has to say of a text, and how it is written.
+//! Answers: what a run has to say of a text, with the status that it ends with and the way it is written.
 ghost use Rattle.std.specs.Prelude.{◌≡◌, OnOk, OnErr};
 ghost use Rattle.std.specs.Io.KnownBytes.{Appends};
 ghost use Rattle.asp_defs.specs.Lines.{word_line};
@@ -12,7 +12,7 @@ use asp_check::Checked;
 use asp_io::{Failed, Sink, write_all};
 use asp_print::{Line, print_line, print_program};
 
-/// What a run has to say of a text, and how it is written.
+/// What a command has to say of a text.
 #[derive(Drop)]
 pub enum Answer {
     /// The text is refused, as the line says.

@@ -1,4 +1,4 @@
-//! Why a text is not accepted.
+//! Refusals of texts, made of the faults of the crates below.
 use asp_check::CheckFault;
 use asp_defs::{SizeFault, TextFault};
 use asp_print::Line;

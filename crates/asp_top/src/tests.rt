@@ -5,7 +5,10 @@ mod examples;
 mod faults;
 mod games;
 mod language;
+mod listings;
+mod names;
 mod sizes;
+mod solved;
 
 use crate::{Status, run_single};
 use asp_io::{MemSink, MemSource};
@@ -13,6 +16,7 @@ use examples::EXAMPLES;
 use games::{ARGUMENTS, LEVELS, RULES};
 use language::{FORMS, REFUSED, VARIABLES};
 use sizes::{KEPT, LARGE};
+use solved::SOLVED;
 use std::alloc::{AllocError, Global};
 use std::process::Abort;
 use std::test::Fail;
@@ -40,7 +44,7 @@ fn run_bytes(
 {
     let words = words_of(alloc, words)?;
     let mut source = MemSource::new(bytes, most, Vec::new(alloc));
-    let mut sink = MemSink::new(alloc, 2000, 7, Vec::new(alloc))?;
+    let mut sink = MemSink::new(alloc, 200_000, 7, Vec::new(alloc))?;
     let ended = run_single(alloc, words.as_slice(), &mut source, &mut sink);
     Ok((ended.status, sink))
 }
@@ -56,16 +60,17 @@ fn run_rows(rt: &impl Abort, alloc: Global, rows: &[Row]) -> Result<(), AllocErr
     Ok(())
 }
 
-/// Runs `solve` over each text, and looks whether its program is coherent.
+/// Runs `solve` over each text, and compares with whether its program is coherent.
 fn solve_rows(rt: &impl Abort, alloc: Global, rows: &[(&str, bool)]) -> Result<(), AllocError> {
     for (text, coherent) in rows {
         let bytes = text.as_bytes().to_vec(alloc)?;
-        let (status, _) = run_bytes(alloc, "solve", bytes, 60_000)?;
-        let verdict = if *coherent {
-            Status::Coherent
+        let (status, sink) = run_bytes(alloc, "solve", bytes, 60_000)?;
+        let (line, verdict) = if *coherent {
+            ("COHERENT\n", Status::Coherent)
         } else {
-            Status::Incoherent
+            ("INCOHERENT\n", Status::Incoherent)
         };
+        assert_eq!(rt; sink.taken(), line.as_bytes(), "{text}");
         assert_eq!(rt; status, verdict, "{text}");
     }
     Ok(())
@@ -136,120 +141,6 @@ const WORKED: [Row; 23] = [
         "%@exists\na :- b, not c.\n{d; e : f}.\n",
         0,
     ),
-];
-
-/// Verdicts on programs of one existential level, and what isn't solved yet.
-const SOLVED: [Row; 34] = [
-    (
-        "solve",
-        "%@exists\na :- not b.\nb :- not a.\n",
-        "COHERENT\n",
-        10,
-    ),
-    ("solve", "%@exists\na :- not a.\n", "INCOHERENT\n", 20),
-    (
-        "solve",
-        "%@exists\np :- not q.\n:- p.\n",
-        "INCOHERENT\n",
-        20,
-    ),
-    ("solve", "%@exists\n{a}.\n", "COHERENT\n", 10),
-    ("solve", "%@exists", "COHERENT\n", 10),
-    ("solve", "%@exists:-.", "INCOHERENT\n", 20),
-    ("solve", "%@exists a:-b. b:-a. :-not a.", "INCOHERENT\n", 20),
-    (
-        "solve",
-        "%@exists a. b:-a. b:-a. :-not b.",
-        "COHERENT\n",
-        10,
-    ),
-    (
-        "solve",
-        "%@exists a:-not b. b:-not c. c:-not a.",
-        "INCOHERENT\n",
-        20,
-    ),
-    ("solve", "%@exists notx. :-not notx.", "COHERENT\n", 10),
-    (
-        "solve",
-        "%@exists a.b.c.d.e.f.g.h.i.j.k.l.m.n.o.p.",
-        "COHERENT\n",
-        10,
-    ),
-    (
-        "solve",
-        "%@exists a.b.c.d.e.f.g.h.i.j.k.l.m.n.o.p.q.r.s.t.",
-        "COHERENT\n",
-        10,
-    ),
-    (
-        "solve",
-        "%@exists a.b.c.d.e.f.g.h.i.j.k.l.m.n.o.p.q.r.s.t.u.",
-        "aspq: not yet\n",
-        3,
-    ),
-    ("solve", "%@exists p(1..20).", "COHERENT\n", 10),
-    ("solve", "%@exists p(1..21).", "aspq: not yet\n", 3),
-    (
-        "solve",
-        "%@exists a:-not b. b:-not a. c:-not d. d:-not c. e:-not f. f:-not e. g:-not h. h:-not g. i:-not j. j:-not i. k:-not l. l:-not k. m:-not n. n:-not m. o:-not p. p:-not o.",
-        "COHERENT\n",
-        10,
-    ),
-    (
-        "solve",
-        "%@exists a:-not b. b:-not a. c:-not d. d:-not c. e:-not f. f:-not e. g:-not h. h:-not g. i:-not j. j:-not i. k:-not l. l:-not k. m:-not n. n:-not m. o:-not p. p:-not o. :-a. :-b.",
-        "INCOHERENT\n",
-        20,
-    ),
-    (
-        "solve",
-        "%@exists a:-not b. b:-not a. c:-not d. d:-not c. e:-not f. f:-not e. g:-not h. h:-not g. i:-not j. j:-not i. k:-not l. l:-not k. m:-not n. n:-not m. o:-not p. p:-not o. q:-not r. r:-not q. s:-not t. t:-not s.",
-        "COHERENT\n",
-        10,
-    ),
-    (
-        "solve",
-        "%@exists%@exists%@exists%@exists%@exists%@exists%@exists%@exists\
-        %@forall%@forall%@forall%@forall%@forall%@forall%@forall%@forall",
-        "COHERENT\n",
-        10,
-    ),
-    ("solve", "%@exists é.", "aspq: bad byte at 9\n", 3),
-    ("solve", "%@exists a. % é\n", "COHERENT\n", 10),
-    (
-        "solve",
-        "% loop\n%@exists\na :- not b. %* %@forall *%\nb :- not a. % end",
-        "COHERENT\n",
-        10,
-    ),
-    (
-        "solve",
-        "%@exists\na :- not a.\n%@constraint\n",
-        "INCOHERENT\n",
-        20,
-    ),
-    ("solve", "%@exists p(). :- not p.", "COHERENT\n", 10),
-    ("solve", "%@forall\na.\n", "COHERENT\n", 10),
-    ("solve", "%@exists\na.\n%@exists\nb.\n", "COHERENT\n", 10),
-    ("solve", "%@exists\na | b.\n", "COHERENT\n", 10),
-    (
-        "solve",
-        "%@exists\na.\n%@constraint\n:- b.\n",
-        "COHERENT\n",
-        10,
-    ),
-    ("solve", "%@exists\n:- 2 < 1.\n", "COHERENT\n", 10),
-    ("solve", "%@exists\np(1).\n", "COHERENT\n", 10),
-    ("solve", "%@exists\n:- not p(1).\n", "INCOHERENT\n", 20),
-    (
-        "solve",
-        "%@exists\np(X).\n",
-        "aspq: unsafe variable X in rule 1\n",
-        3,
-    ),
-    ("solve", "%@exists a", "aspq: unfinished\n", 3),
-    ("solve", "%@exists a.\0", "aspq: bad byte at 11\n", 3),
 ];
 
 /// Texts that `check` prints in their canonical form.
@@ -735,6 +626,18 @@ fn refuses_a_text_that_is_too_long(rt: HostRuntime) -> Result<(), Fail> {
     Ok(())
 }
 
+#[test]
+fn solves_the_examples(rt: HostRuntime) -> Result<(), Fail> {
+    let alloc = rt.alloc();
+    for (text, line, code) in EXAMPLES {
+        let bytes = text.as_bytes().to_vec(alloc)?;
+        let (status, sink) = run_bytes(alloc, "solve", bytes, 60_000)?;
+        assert_eq!(rt; sink.taken(), line.as_bytes(), "{text}");
+        assert_eq!(rt; status.code(), code, "{text}");
+    }
+    Ok(())
+}
+
 /// The canonical text of the first example.
 const CONFORMANT_PLAN: &str = "%@exists\n\
     cell(1..3).\n\
@@ -759,7 +662,7 @@ const CONFORMANT_PLAN: &str = "%@exists\n\
 #[test]
 fn prints_an_example(rt: HostRuntime) -> Result<(), Fail> {
     let alloc = rt.alloc();
-    let bytes = EXAMPLES[0].as_bytes().to_vec(alloc)?;
+    let bytes = EXAMPLES[0].0.as_bytes().to_vec(alloc)?;
     let (status, sink) = run_bytes(alloc, "check", bytes, 60_000)?;
     assert_eq!(rt; status, Status::Done);
     assert_eq!(rt; sink.taken(), CONFORMANT_PLAN.as_bytes());
@@ -769,7 +672,7 @@ fn prints_an_example(rt: HostRuntime) -> Result<(), Fail> {
 #[test]
 fn prints_texts_that_are_printed_as_they_stand(rt: HostRuntime) -> Result<(), Fail> {
     let alloc = rt.alloc();
-    for text in EXAMPLES {
+    for (text, _, _) in EXAMPLES {
         let bytes = text.as_bytes().to_vec(alloc)?;
         let (status, first) = run_bytes(alloc, "check", bytes, 60_000)?;
         assert_eq!(rt; status, Status::Done, "{text}");

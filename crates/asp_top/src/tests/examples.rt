@@ -1,8 +1,10 @@
 //! The texts of the repository's folder `examples`, in the order of their names: a test can't read files, so a change of
 //! one is made here too.
 
-pub const EXAMPLES: [&str; 9] = [
-    "% A robot stands in one of three cells of a corridor and can't see which one. A step takes it to the next cell on the
+/// The texts, and what `solve` says of each, with the exit status.
+pub const EXAMPLES: [(&str, &str, u8); 10] = [
+    (
+        "% A robot stands in one of three cells of a corridor and can't see which one. A step takes it to the next cell on the
 % left or on the right; at a wall it stays where it is.
 % Is there a plan of two steps after which it stands in cell 1, wherever it stood at first?
 
@@ -25,11 +27,19 @@ at(C,U) :- at(B,T), next(T,U), plan(D,T), step(D,B,C).
 %@constraint
 :- not at(1,3).
 ",
-    "%@exists
+        "aspq: not yet\n",
+        3,
+    ),
+    (
+        "%@exists
 stay :- not leave.
 leave :- not stay.
 ",
-    "% Four stones lie in a heap. Two players take one or two of them by turns, and who takes the last stone wins.
+        "COHERENT\n",
+        10,
+    ),
+    (
+        "% Four stones lie in a heap. Two players take one or two of them by turns, and who takes the last stone wins.
 % Is there a first move after which the first player wins, whatever the other one does?
 
 %@exists
@@ -53,7 +63,11 @@ after_third(S) :- after_second(H), third(T), leaves(H,T,S).
 % The first player has won where the third move leaves nothing.
 :- not after_third(0).
 ",
-    "% A fire engine is to stand at one of three crossings. minutes(C,H,M): from crossing C to house H it takes M minutes.
+        "aspq: not yet\n",
+        3,
+    ),
+    (
+        "% A fire engine is to stand at one of three crossings. minutes(C,H,M): from crossing C to house H it takes M minutes.
 % Is there a crossing from which no house is more than three minutes away? With 2 in place of 3 there is none, so
 % three minutes are the shortest longest way.
 
@@ -70,7 +84,11 @@ fire(mill) | fire(school) | fire(harbour).
 %@constraint
 :- station(C), fire(H), minutes(C,H,M), M > 3.
 ",
-    "%@exists
+        "aspq: not yet\n",
+        3,
+    ),
+    (
+        "%@exists
 
 a_red :- not a_blue.
 a_blue :- not a_red.
@@ -86,10 +104,18 @@ c_blue :- not c_red.
 :- c_red, a_red.
 :- c_blue, a_blue.
 ",
-    "%@exists
+        "INCOHERENT\n",
+        20,
+    ),
+    (
+        "%@exists
 open :- not open.
 ",
-    "%@exists
+        "INCOHERENT\n",
+        20,
+    ),
+    (
+        "%@exists
 
 talk_morning :- not talk_evening.
 talk_evening :- not talk_morning.
@@ -109,7 +135,11 @@ hall_evening :- panel_evening.
 :- demo_evening, hall_evening, not panel_evening.
 :- panel_morning.
 ",
-    "%@exists
+        "COHERENT\n",
+        10,
+    ),
+    (
+        "%@exists
 
 a_red :- not a_blue.
 a_blue :- not a_red.
@@ -129,9 +159,36 @@ d_blue :- not d_red.
 :- d_red, a_red.
 :- d_blue, a_blue.
 ",
-    "%@exists
+        "COHERENT\n",
+        10,
+    ),
+    (
+        "%@exists
 win :- trust.
 trust :- win.
 :- not win.
 ",
+        "INCOHERENT\n",
+        20,
+    ),
+    (
+        "% A vault has three locks. Each of three clerks gets keys to some of them, and any one of the three may be away.
+% Can the keys be given out so that no clerk can open the vault alone, but the two who are there always can?
+
+%@exists
+% The clerks have the numbers 1 to 3, and so have the locks. key(C,L): clerk C has a key to lock L.
+number(1..3).
+{key(C,L) : number(C), number(L)}.
+:- key(C,1), key(C,2), key(C,3).
+
+%@forall
+away(1) | away(2) | away(3).
+open(L) :- key(C,L), not away(C).
+
+%@constraint
+:- number(L), not open(L).
+",
+        "COHERENT\n",
+        10,
+    ),
 ];

@@ -1,7 +1,7 @@
 //! Programs of at most 20 atoms, and whether they are coherent, as it was found by hand.
 
 /// Quantified levels, a constraint part, and levels without answer sets.
-pub const LEVELS: [(&str, bool); 25] = [
+pub const LEVELS: [(&str, bool); 30] = [
     ("%@exists {a}.", true),
     ("%@exists {a}. %@constraint :- not a.", true),
     ("%@forall {a}. %@constraint :- not a.", false),
@@ -63,6 +63,32 @@ pub const LEVELS: [(&str, bool); 25] = [
         "%@exists {a}. %@forall {b}. %@forall {c}. %@constraint :- b, not c.",
         false,
     ),
+    // An atom of an outer level in a choice and as a head of a later one.
+    (
+        "%@exists {a}. %@exists {a}. b :- a. %@constraint :- not b.",
+        true,
+    ),
+    (
+        "%@exists {a}. :- a. %@exists {a}. %@constraint :- not a.",
+        false,
+    ),
+    (
+        "%@exists {a}. :- a. %@forall a | b. %@constraint :- not b.",
+        true,
+    ),
+    // The example `vault` with two locks, and with one key to each lock.
+    (
+        "%@exists n(1..3). {key(C,L) : n(C), n(L)}. :- key(C,1), key(C,2).
+        %@forall away(1) | away(2) | away(3). open(L) :- key(C,L), not away(C).
+        %@constraint :- n(L), L < 3, not open(L).",
+        false,
+    ),
+    (
+        "%@exists n(1..3). {key(C,L) : n(C), n(L)}. :- key(C,1), key(C,2), key(C,3). :- key(C,L), key(D,L), C < D.
+        %@forall away(1) | away(2) | away(3). open(L) :- key(C,L), not away(C).
+        %@constraint :- n(L), not open(L).",
+        false,
+    ),
 ];
 
 /// Rules without arguments: disjunctions, choices, loops, comparisons and the order of constants.
@@ -99,7 +125,7 @@ pub const RULES: [(&str, bool); 20] = [
 ];
 
 /// Rules with arguments: intervals, variables, universes that grow, and predicates of one name.
-pub const ARGUMENTS: [(&str, bool); 22] = [
+pub const ARGUMENTS: [(&str, bool); 24] = [
     ("%@exists p(1..3). :- not p(2).", true),
     ("%@exists p(3..1). :- p(X).", true),
     ("%@exists p(1..2,1..2). :- not p(2,1).", true),
@@ -150,6 +176,15 @@ pub const ARGUMENTS: [(&str, bool); 22] = [
     ),
     (
         "%@exists s(b). s(10). a(X) :- s(X), s(Y), X < Y. :- not a(b).",
+        false,
+    ),
+    // The least of -2, 10 and b.
+    (
+        "%@exists s(b). s(10). s(-2). a(X) :- s(X), not c(X). c(X) :- s(X), s(Y), Y < X. :- not a(-2).",
+        true,
+    ),
+    (
+        "%@exists s(b). s(10). s(-2). a(X) :- s(X), not c(X). c(X) :- s(X), s(Y), Y < X. :- not a(10).",
         false,
     ),
 ];
