@@ -18,9 +18,10 @@ pub record SearchState : Type 0 where
   pub stage : Stage
   pub decisions : ℕ
 
--- no clause, no assumption, no search
+-- no clause, no assumption, no search; there are few enough atoms for their literals to have codes
 pub record IsFresh (search : SearchState) (atoms budget : ℕ) : Type 0 where
   pub atoms_are : search.atoms ≡ atoms
+  pub few : search.atoms ≤ 262144
   pub budget_is : search.budget ≡ budget
   pub count : search.count ≡ 0
   pub clauses : search.clauses ≡ []
