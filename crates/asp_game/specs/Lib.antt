@@ -1,0 +1,4 @@
+pub mod State
+pub mod Questions
+pub mod Answers
+pub mod Example

@@ -1,0 +1,6 @@
+pub mod Choosing
+pub mod Leaving
+pub mod Places
+pub mod Verdicts
+pub mod Stating
+pub mod Reasons

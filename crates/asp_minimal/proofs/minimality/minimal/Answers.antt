@@ -1,0 +1,65 @@
+use Rattle.std.proofs.Common.{◌≡◌, ℕ, false, List, length, Ok, sym, ap, ◌∙◌, subst}
+use Rattle.asp_bits.specs.Places.{true_places}
+use Rattle.asp_minimal.specs.Choices.{Refutes}
+use Rattle.asp_search.specs.Found.{assignment_of}
+use Rattle.asp_minimal.specs.Numbers.{numbers_from, leaving_places}
+use Rattle.asp_minimal.proofs.Places.{length-written, length-numbers_from, numbers_fit}
+use Rattle.asp_minimal.proofs.Verdicts.{refutes_when_found, not_answer_set, answer_set_when_core}
+use Rattle.asp_minimal.proofs.minimality.minimal.Goals as goal
+use Rattle.asp_minimal.proofs.minimality.minimal.Goals.{After-as_slice, After-drop-part-inside-in-Ok-Found}
+
+numbers_are : (c : After-as_slice) → c.as_slice.result.now ≡ numbers_from 0 c.in_ok-part.part
+numbers_are c = c.as_slice.ensures.value ∙ c.in_ok-numbers.ensures
+
+pub prepare-requires-clause-same_length : goal.prepare-requires-clause-same_length
+prepare-requires-clause-same_length c = ap length c.in_ok-part.ensures ∙ length-written false c.args.set.now c.args.free.now
+
+pub prepare-requires-clause-numbered : goal.prepare-requires-clause-numbered
+prepare-requires-clause-numbered c =
+    ap length (numbers_are c) ∙ length-numbers_from 0 c.in_ok-part.part
+    ∙ ap length c.in_ok-part.ensures ∙ length-written false c.args.set.now c.args.free.now
+
+pub prepare-requires-clause-numbers : goal.prepare-requires-clause-numbers
+prepare-requires-clause-numbers c =
+    numbers_fit c.args.set.now c.in_ok-part.part c.args.free.now c.as_slice.result.now c.args.search.now.atoms c.in_ok-part.ensures (numbers_are c) c.requires.fresh.atoms_are
+
+pub prepare-requires-clause-small : goal.prepare-requires-clause-small
+prepare-requires-clause-small c = c.requires.fresh.few
+
+pub leaving-requires-clause-numbers : goal.leaving-requires-clause-numbers
+leaving-requires-clause-numbers c =
+    numbers_fit c.args.set.now c.in_ok-part.part c.args.free.now c.as_slice-in-Ok-Found.result.now c.next.new.self.atoms c.in_ok-part.ensures
+    (c.as_slice-in-Ok-Found.ensures.value ∙ c.in_ok-numbers.ensures)
+    (c.in-Ok-Found.ensures.goes_on.atoms ∙ c.in_ok-prepare.ensures.demands.atoms ∙ c.requires.fresh.atoms_are)
+
+pub leaving-requires-clause-len : goal.leaving-requires-clause-len
+leaving-requires-clause-len c =
+    c.len.ensures ∙ sym (ap length (c.as_slice-in-Ok-Found.ensures.value ∙ c.in_ok-numbers.ensures) ∙ length-numbers_from 0 c.in_ok-part.part
+    ∙ ap length c.in_ok-part.ensures ∙ length-written false c.args.set.now c.args.free.now)
+
+-- what the answer names refutes the set
+refutes : (c : After-drop-part-inside-in-Ok-Found) → Refutes c.args.rules.now c.args.free.now (true_places c.args.set.now) c.in_ok-atoms-in-Ok-Found.atoms
+refutes c =
+    refutes_when_found c.args.rules.now c.args.free.now c.args.set.now c.in_ok-part.part c.as_slice.result.now c.in_ok-atoms-in-Ok-Found.atoms
+    c.args.search.now c.prepare.new.search c.next.new.self
+    c.in_ok-part.ensures (c.as_slice.ensures.value ∙ c.in_ok-numbers.ensures) c.in_ok-prepare.ensures.demands c.in-Ok-Found.ensures.goes_on.clauses
+    (c.in-Ok-Found.ensures.found (ap (λ o. Ok o) c.in-Ok-Found.field-0-is))
+    (c.in_ok-atoms-in-Ok-Found.ensures
+    ∙ ap (leaving_places (assignment_of c.next.new.self.trail)) (c.as_slice-in-Ok-Found.ensures.value ∙ sym c.as_slice.ensures.value))
+
+pub returns-in-Ok-Found-clause-no : goal.returns-in-Ok-Found-clause-no
+returns-in-Ok-Found-clause-no c = λ u e.
+    not_answer_set c.args.rules.now c.args.free.now (true_places c.args.set.now) c.in_ok-atoms-in-Ok-Found.atoms (refutes c)
+
+pub returns-in-Ok-Found-clause-unfounded : goal.returns-in-Ok-Found-clause-unfounded
+returns-in-Ok-Found-clause-unfounded c = λ u e.
+    let same : c.in_ok-atoms-in-Ok-Found.atoms ≡ u = cc in
+    subst (λ (W : List ℕ). Refutes c.args.rules.now c.args.free.now (true_places c.args.set.now) W) same (refutes c)
+
+pub returns-in-Ok-Core-clause-yes : goal.returns-in-Ok-Core-clause-yes
+returns-in-Ok-Core-clause-yes c = λ e.
+    answer_set_when_core c.args.rules.now c.args.free.now c.args.set.now c.in_ok-part.part c.as_slice.result.now c.in-Ok-Core.field-0-0
+    c.args.search.now c.prepare.new.search
+    c.in_ok-part.ensures (c.as_slice.ensures.value ∙ c.in_ok-numbers.ensures) c.requires.model c.requires.fresh.clauses c.in_ok-prepare.ensures.begun.assumed
+    c.in_ok-prepare.ensures.demands
+    (c.in-Ok-Core.ensures.core c.in-Ok-Core.field-0-0 (ap (λ o. Ok o) c.in-Ok-Core.field-0-is))

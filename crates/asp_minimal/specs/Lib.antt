@@ -1,0 +1,4 @@
+pub mod Choices
+pub mod Demands
+pub mod Nogoods
+pub mod Numbers

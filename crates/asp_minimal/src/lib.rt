@@ -1,0 +1,33 @@
+//! Whether an interpretation is an answer set of rules with free choices, by a search for what could leave it, and the clause
+//! that a set of atoms gives which nothing outside it supports.
+//!
+//! # Idea
+//! - An interpretation that satisfies the rules is an answer set exactly where none of its subsets but the empty one is
+//!   unfounded in it. With a free choice on an atom, that atom is in no unfounded set.
+//! - The search has an atom for each true atom without a free choice, true where that atom stays. Each rule by which a true
+//!   atom could be supported gives one clause: an atom of the positive body leaves, or an atom of the head stays. One more
+//!   clause says that some atom leaves. What leaves in an assignment is unfounded; where there is none, nothing is.
+//! - An unfounded set stays unfounded wherever none of its atoms is false and no rule became its support. So one literal
+//!   for each of its atoms and one for each rule that could support it make a clause that every answer set satisfies.
+//!
+//! # Map
+//! | module | state or step |
+//! |---|---|
+//! | `atoms` | true and false atoms of a rule |
+//! | `numbers` | which atoms the search has, and under which number |
+//! | `clauses` | the clauses that the search is given |
+//! | `minimality` | the call `minimal` |
+//! | `blocking` | the call `nogood` |
+#![tactic(auto)]
+
+mod atoms;
+mod blocking;
+mod clauses;
+mod minimality;
+mod numbers;
+
+pub use blocking::nogood;
+pub use minimality::{Minimality, minimal};
+
+#[cfg(test)]
+mod tests;
