@@ -60,7 +60,7 @@ shorter : (b : Bool) (v : Term) (vs ws : List Term) → length vs ≤ length ws 
 shorter true v vs ws h = omega arith
 shorter false v vs ws h = omega arith
 
-others_few : (x : Term) (vs : List Term) → length (others x vs) ≤ length vs
+pub others_few : (x : Term) (vs : List Term) → length (others x vs) ≤ length vs
 others_few x [] = omega arith
 others_few x (v ∷ vs) = shorter (not (same_variable x v)) v (others x vs) vs (others_few x vs)
 

@@ -35,7 +35,7 @@ get_front [] y k d h = absurd (omega arith)
 get_front (x ∷ xs) y zero d h = refl
 get_front (x ∷ xs) y (suc k) d h = get_front xs y k d (omega arith)
 
-get_seam : {A : Type 0} (xs : List A) (y d : A) → get_or (xs ++ y ∷ []) (length xs) d ≡ y
+pub get_seam : {A : Type 0} (xs : List A) (y d : A) → get_or (xs ++ y ∷ []) (length xs) d ≡ y
 get_seam [] y d = refl
 get_seam (x ∷ xs) y d = get_seam xs y d
 

@@ -25,7 +25,7 @@ use Rattle.asp_check.specs.Safe.{Agree}
 use Rattle.asp_check.proofs.Members.{itself, member_at, member_from, same_test, flat_at, flat_from}
 
 -- a variable of a term is the same as itself
-same_self : (t v : Term) → IsIn v (term_variables t) → same_variable v v ≡ true
+pub same_self : (t v : Term) → IsIn v (term_variables t) → same_variable v v ≡ true
 same_self (Int x) v i = absurd i
 same_self (Sym s) v i = absurd i
 same_self (Var n) v (inl e) = subst (λ w. same_variable w w ≡ true) (sym e) ((bytes_decides n n).1 refl)
