@@ -89,7 +89,7 @@ fn positive_part(alloc: Global, rule: &GroundRule) -> Result<GroundRule, NoMemor
 /// The reduct of the rules under an interpretation (Gelfond and Lifschitz 1991), in the order of the rules.
 ///
 /// A rule stays where no atom of its negative body is true, and loses its negative body. A choice stays where also its
-/// head atom is true, and becomes a plain rule.
+/// head atom is true, and becomes a plain rule. The only refusal is want of memory.
 pub fn reduct(alloc: Global, rules: &[GroundRule], set: &Bits) -> Result<List<GroundRule>, NoMemory>
     requires { IsTrue (list_all (is_rule_below (length set.now)) rules.now) }
     ensures { IfOk result (λ parts. parts ≡ reduct_of rules.now (true_places set.now)) }

@@ -1,5 +1,5 @@
 // Rules over the atoms 0, 1 and 2, against answers that were worked out by hand.
-ghost use Rattle.std.specs.Prelude.{◌≡◌, length};
+ghost use Rattle.std.specs.Prelude.{◌≡◌};
 ghost use Rattle.std.specs.List.{list_all};
 ghost use Rattle.asp_reduct.specs.Bounds.{are_below, is_rule_below};
 
