@@ -38,8 +38,8 @@ past which count b = cond b (Some (which, min count most_shown)) None
 passed : (which : Which) (count : ℕ) → limit which < count → past_limit which count ≡ Some (which, min count most_shown)
 passed which count h = ap (past which count) (lt-ltb (limit which) count h)
 
-kept : (which : Which) (count : ℕ) → count ≤ limit which → past_limit which count ≡ None
-kept which count h = ap (past which count) (le-ltb (limit which) count h)
+pub limit_kept : (which : Which) (count : ℕ) → count ≤ limit which → past_limit which count ≡ None
+limit_kept which count h = ap (past which count) (le-ltb (limit which) count h)
 
 pub many_constants : (p : Program) (size : ℕ) → size ≡ min (constant_total p) most_shown → 4096 < size → base_too_large p ≡ Some (Constants, size)
 many_constants p size e h =
@@ -50,13 +50,13 @@ many_constants p size e h =
 pub many_atoms : (p : Program) (total : ℕ) → constant_total p ≤ 4096 → total ≡ min (atom_total p) most_shown → 262144 < total → base_too_large p ≡ Some (Atoms, total)
 many_atoms p total few e h =
     let over : limit Atoms < atom_total p = omega (arith, e, h) in
-    ap (λ o. option_or o (past_limit Atoms (atom_total p))) (kept Constants (constant_total p) few)
+    ap (λ o. option_or o (past_limit Atoms (atom_total p))) (limit_kept Constants (constant_total p) few)
     ∙ (passed Atoms (atom_total p) over ∙ ap (λ n. Some (Atoms, n)) (sym e))
 
 pub few_of_both : (p : Program) → constant_total p ≤ 4096 → atom_total p ≤ 262144 → base_too_large p ≡ None
 few_of_both p few small =
-    ap (λ o. option_or o (past_limit Atoms (atom_total p))) (kept Constants (constant_total p) few)
-    ∙ kept Atoms (atom_total p) small
+    ap (λ o. option_or o (past_limit Atoms (atom_total p))) (limit_kept Constants (constant_total p) few)
+    ∙ limit_kept Atoms (atom_total p) small
 
 -- ---- the arity of a checked program's predicates
 
@@ -68,11 +68,11 @@ pub second_none : {A : Type 0} (a b : Option A) → option_or a b ≡ None → b
 second_none None b e = e
 second_none (Some x) b e = absurd (cc)
 
-no_one : {A : Type 0} (a : Option A) → is_none a ≡ true → a ≡ None
+pub no_one : {A : Type 0} (a : Option A) → is_none a ≡ true → a ≡ None
 no_one None e = refl
 no_one (Some x) e = absurd (cc)
 
-unmapped : {A B : Type 0} (f : A → B) (a : Option A) → option_map f a ≡ None → a ≡ None
+pub unmapped : {A B : Type 0} (f : A → B) (a : Option A) → option_map f a ≡ None → a ≡ None
 unmapped f None e = refl
 unmapped f (Some x) e = absurd (cc)
 
@@ -92,7 +92,7 @@ max_start : (a : ℕ) (xs : List ℕ) → a ≤ fold max a xs
 max_start a [] = omega arith
 max_start a (x ∷ xs) = let h = max_start (max a x) xs in omega (arith, h)
 
-max_member : (a : ℕ) (xs : List ℕ) (x : ℕ) → IsIn x xs → x ≤ fold max a xs
+pub max_member : (a : ℕ) (xs : List ℕ) (x : ℕ) → IsIn x xs → x ≤ fold max a xs
 max_member a [] x i = absurd i
 max_member a (y ∷ ys) x (inl e) = let h = max_start (max a y) ys in omega (arith, h, e)
 max_member a (y ∷ ys) x (inr i) = max_member (max a y) ys x i
