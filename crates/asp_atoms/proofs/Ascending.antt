@@ -7,7 +7,7 @@ use Rattle.std.specs.declared.cmp.Ordering.TheVariants.{Less, Equal, Greater}
 use Rattle.std.proofs.lemmas.Cmp.{tied_itself}
 use Rattle.asp_defs.specs.Lists.{IsIn}
 use Rattle.asp_defs.specs.Constants.{with_member, distinct}
-use Rattle.asp_defs.proofs.Lists.{append_at, append_left, append_right}
+use Rattle.asp_check.proofs.Members.{flat_at}
 use Rattle.asp_atoms.specs.Ascending.{AllAbove, Ascends}
 use Rattle.asp_atoms.proofs.Orders.{IsLawful}
 
@@ -163,23 +163,11 @@ module _ {A : Type 0} {R : A → A → Ordering} (law : IsLawful R) where
 
 -- ---- a list of lists
 
-pub flat_map_at : {A B : Type 0} (f : A → List B) (xs : List A) (y : B) → IsIn y (flat_map f xs) → (x : A) × IsIn x xs × IsIn y (f x)
-flat_map_at f [] y i = absurd i
-flat_map_at f (x ∷ xs) y i = elim (append_at (f x) (flat_map f xs) y i) [
-  | inl j ↦ (x, inl refl, j)
-  | inr j ↦ let found = flat_map_at f xs y j in (found.0, inr found.1, found.2)
-]
-
-pub flat_map_in : {A B : Type 0} (f : A → List B) (xs : List A) (x : A) (y : B) → IsIn x xs → IsIn y (f x) → IsIn y (flat_map f xs)
-flat_map_in f [] x y i j = absurd i
-flat_map_in f (w ∷ xs) x y (inl e) j = append_left (f w) (flat_map f xs) y (subst (λ v. IsIn y (f v)) e j)
-flat_map_in f (w ∷ xs) x y (inr i) j = append_right (f w) (flat_map f xs) y (flat_map_in f xs x y i j)
-
 pub ascends_flat_map : {A B : Type 0} (R : A → A → Ordering) {S : B → B → Ordering} (law : IsLawful S) (f : A → List B) (xs : List A) → Ascends R xs → ((x : A) → Ascends S (f x)) → ((x z : A) → R x z ≡ Less → (a b : B) → IsIn a (f x) → IsIn b (f z) → S a b ≡ Less) → Ascends S (flat_map f xs)
 ascends_flat_map R law f [] up each apart = tt
 ascends_flat_map R law f (x ∷ xs) up each apart =
     ascends_append law (f x) (flat_map f xs) (each x) (ascends_flat_map R law f xs up.1 each apart)
-    (λ a b i j. let found = flat_map_at f xs b j in apart x found.0 (above_at R x xs up.0 found.0 found.1) a b i found.2)
+    (λ a b i j. let found = flat_at f xs b j in apart x found.0 (above_at R x xs up.0 found.0 found.1) a b i found.2)
 
 -- ---- a mapped list
 

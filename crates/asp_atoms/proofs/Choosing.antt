@@ -11,13 +11,14 @@ use Rattle.asp_defs.specs.Lists.{IsIn}
 use Rattle.asp_defs.specs.Constants.{const_cmp}
 use Rattle.asp_defs.specs.Bases.{Predicate, predicate_cmp, predicate_atoms, atom_number}
 use Rattle.asp_defs.proofs.Lists.{filter_at, filter_from, map_at, map_from}
+use Rattle.asp_check.proofs.Steps.{get_is_in}
 use Rattle.asp_atoms.specs.declared.vocabularies.NumberedPredicate.{NumberedPredicate}
 use Rattle.asp_atoms.specs.Ascending.{AllAbove, Ascends, place_in}
 use Rattle.asp_atoms.specs.Vocabularies.{const_rank, unnumbered, numbered_from}
 use Rattle.asp_atoms.specs.Members.{is_predicate_of, predicate_numbers, level_numbers}
 use Rattle.asp_atoms.proofs.Orders.{predicate_lawful}
 use Rattle.asp_atoms.proofs.Ascending.{above_at, above_from, unique}
-use Rattle.asp_atoms.proofs.Positions.{place_below, get_in}
+use Rattle.asp_atoms.proofs.Positions.{place_below}
 use Rattle.asp_atoms.proofs.Settled.{is_equal}
 use Rattle.asp_atoms.proofs.Numbering.{predicate_is}
 
@@ -42,7 +43,7 @@ one_among ps q e =
     let h : at < length ps = ltb-true at (length ps) (below_so (ltb at (length ps)) at e) in
     let same : is_eq (predicate_cmp q (get_or ps at q)) ≡ true = passes_at_first (λ p. is_eq (predicate_cmp q p)) ps q h in
     let is : q ≡ get_or ps at q = predicate_lawful.exact q (get_or ps at q) (is_equal (predicate_cmp q (get_or ps at q)) same) in
-    subst (λ p. IsIn p ps) (sym is) (get_in ps at q h)
+    subst (λ p. IsIn p ps) (sym is) (get_is_in ps at q h)
 
 -- ---- what is chosen ascends
 

@@ -12,12 +12,13 @@ use Rattle.std.proofs.lemmas.Int.{ints, clamps, by_lt_z}
 use Rattle.asp_defs.specs.Lists.{IsIn}
 use Rattle.asp_defs.specs.Constants.{integers_from, interval_length, interval, distinct}
 use Rattle.asp_defs.proofs.Lists.{append_at, append_left, append_right}
+use Rattle.asp_check.proofs.Members.{flat_at, flat_from}
 use Rattle.asp_atoms.specs.declared.intervals.Interval.{Interval}
 use Rattle.asp_atoms.specs.Universes.{between, integers, integers_of}
 use Rattle.asp_atoms.specs.Gaps.{apart_at, free_behind, apart_from, first_low}
 use Rattle.asp_atoms.specs.Ascending.{Ascends}
 use Rattle.asp_atoms.proofs.Orders.{int_lawful}
-use Rattle.asp_atoms.proofs.Ascending.{above_from, ascends_append, distinct_is, flat_map_at, flat_map_in}
+use Rattle.asp_atoms.proofs.Ascending.{above_from, ascends_append, distinct_is}
 use Rattle.asp_atoms.proofs.Settled.{contains_in, in_contains}
 
 -- ---- integers from one on
@@ -280,9 +281,9 @@ sorted_apart ys xs moved free low h least =
   where
     across : (us vs : List Interval) → IsPermutation us vs → (z : ℤ) → IsIn z (integers_of us) → IsIn z (integers_of vs)
     across us vs move z i =
-        let found = flat_map_at integers us z i in
+        let found = flat_at integers us z i in
         let there : IsIn found.0 vs = contains_in vs found.0 (Contains-permutation us vs found.0 move (in_contains us found.0 found.1)) in
-        flat_map_in integers vs found.0 z there found.2
+        flat_from integers vs found.0 z there found.2
 
     whole : (z : ℤ) → IsIn z (integers_of ys) → IsIn z (integers_of (apart_from free xs))
     whole z i = let j = across ys xs moved z i in from_apart free low xs h z (least z j) j

@@ -25,8 +25,9 @@ use Rattle.asp_atoms.specs.declared.signatures.Signature.{Signature}
 use Rattle.asp_atoms.specs.declared.vocabularies.NumberedPredicate.{NumberedPredicate}
 use Rattle.asp_atoms.specs.Signatures.{predicate_of, predicates_of}
 use Rattle.asp_defs.specs.Bases.{Predicate}
-use Rattle.asp_atoms.proofs.Ascending.{flat_map_at}
-use Rattle.asp_atoms.proofs.Positions.{Finds, get_in}
+use Rattle.asp_check.proofs.Members.{flat_at}
+use Rattle.asp_check.proofs.Steps.{get_is_in}
+use Rattle.asp_atoms.proofs.Positions.{Finds}
 use Rattle.asp_atoms.proofs.Integers.{piece, integers_more, length_interval, lt_false, lt_true}
 use Rattle.asp_atoms.specs.Counts.{shown}
 use Rattle.asp_atoms.proofs.Counting.{shown_add}
@@ -136,7 +137,7 @@ pub numbers_below : (first base : ℕ) (ranks : List ℕ) → AreRanks base rank
 numbers_below first base ranks h zero m (inl e) = let one = pow-zero base in omega (arith, one, e)
 numbers_below first base ranks h zero m (inr i) = absurd i
 numbers_below first base ranks h (suc k) m i =
-    let rank = flat_map_at (λ (r : ℕ). map (λ n. r * base ^ k + n) (numbers_of first base ranks k)) ranks m i in
+    let rank = flat_at (λ (r : ℕ). map (λ n. r * base ^ k + n) (numbers_of first base ranks k)) ranks m i in
     let n = map_at (λ n. rank.0 * base ^ k + n) (numbers_of first base ranks k) m rank.2 in
     let low = h rank.0 rank.1 in
     let rest = numbers_below first base ranks h k n.0 n.1 in
@@ -167,7 +168,7 @@ multiples_fit first base arity k weight ranks h fits ranked e rank i =
 pub arity_fits : (signatures : List Signature) (i : ℕ) (d : Signature) → ((q : Predicate) → IsIn q (predicates_of signatures) → q.arity ≤ 16) → i < length signatures → Fits w32 (get_or signatures i d).arity
 arity_fits signatures i d short h =
     let s : (get_or signatures i d).arity ≤ 16 =
-    short (predicate_of (get_or signatures i d)) (map_from predicate_of signatures (get_or signatures i d) (get_in signatures i d h)) in
+    short (predicate_of (get_or signatures i d)) (map_from predicate_of signatures (get_or signatures i d) (get_is_in signatures i d h)) in
     omega (arith, s)
 
 abbrev count_of : ℕ → Predicate → ℕ

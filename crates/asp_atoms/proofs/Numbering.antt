@@ -11,12 +11,12 @@ use Rattle.asp_defs.specs.Lists.{IsIn}
 use Rattle.asp_defs.specs.Constants.{const_cmp}
 use Rattle.asp_defs.specs.Bases.{Predicate, predicate_cmp, predicate_atoms, atom_number}
 use Rattle.asp_defs.proofs.Lists.{map_at}
+use Rattle.asp_check.proofs.Members.{flat_at}
 use Rattle.asp_atoms.specs.declared.vocabularies.NumberedPredicate.{NumberedPredicate}
 use Rattle.asp_atoms.specs.Ascending.{Ascends}
 use Rattle.asp_atoms.specs.Tuples.{in_base, shifted, numbers_of}
 use Rattle.asp_atoms.specs.Vocabularies.{const_rank, unnumbered, numbered_from}
 use Rattle.asp_atoms.proofs.Orders.{const_lawful, atom_lawful}
-use Rattle.asp_atoms.proofs.Ascending.{flat_map_at}
 use Rattle.asp_atoms.proofs.Positions.{place_of, place_below, at_place}
 use Rattle.asp_atoms.proofs.Tupling.{before, tuples, applied, length_rows, length_tuples, length_predicate, tuple_wider, atoms_ascend}
 
@@ -66,7 +66,7 @@ placed U up zero t (inl e) = record {
 }
 placed U up zero t (inr i) = absurd i
 placed U up (suc arity) t i =
-    let x = flat_map_at (before (tuples arity U)) U t i in
+    let x = flat_at (before (tuples arity U)) U t i in
     let s = map_at (λ tuple. x.0 ∷ tuple) (tuples arity U) t x.2 in
     subst (Placed U (suc arity)) (sym s.2) (go x.0 s.0 x.1 (placed U up arity s.0 s.1))
   where

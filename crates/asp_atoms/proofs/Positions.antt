@@ -11,6 +11,7 @@ use Rattle.std.proofs.lemmas.List.{get_or-map, length-map, map-id}
 use Rattle.std.proofs.lemmas.List.Sums.{position_or_len_is}
 use Rattle.std.proofs.lemmas.List.Sorted.{searchable_from_sorted}
 use Rattle.asp_defs.specs.Lists.{IsIn}
+use Rattle.asp_check.proofs.Steps.{get_is_in}
 use Rattle.asp_atoms.specs.Ascending.{Ascends, place_in}
 use Rattle.asp_atoms.proofs.Orders.{IsLawful}
 use Rattle.asp_atoms.proofs.Ascending.{above_at, turned, turned_back}
@@ -21,13 +22,8 @@ Finds R ks a r = MatchResult r (λ i. (i < length ks) × (place_in R ks a ≡ i)
 
 -- ---- members by their places
 
-pub get_in : {A : Type 0} (xs : List A) (i : ℕ) (d : A) → i < length xs → IsIn (get_or xs i d) xs
-get_in [] i d h = absurd (omega arith)
-get_in (x ∷ xs) zero d h = inl refl
-get_in (x ∷ xs) (suc i) d h = inr (get_in xs i d (omega arith))
-
 pub item_in : {A : Type 0} (xs : List A) (i : ℕ) (x : A) → i < length xs → x ≡ get_or xs i x → IsIn x xs
-item_in xs i x h e = subst (λ y. IsIn y xs) (sym e) (get_in xs i x h)
+item_in xs i x h e = subst (λ y. IsIn y xs) (sym e) (get_is_in xs i x h)
 
 -- a member's place
 pub record Stands {A : Type 0} (xs : List A) (x : A) : Type 0 where
@@ -45,7 +41,7 @@ stands (y ∷ ys) x (inr i) =
 pub ascends_at : {A : Type 0} (R : A → A → Ordering) (xs : List A) → Ascends R xs → (k i : ℕ) (d : A) → k < i → i < length xs → R (get_or xs k d) (get_or xs i d) ≡ Less
 ascends_at R [] up k i d h g = absurd (omega arith)
 ascends_at R (x ∷ xs) up k zero d h g = absurd (omega arith)
-ascends_at R (x ∷ xs) up zero (suc i) d h g = above_at R x xs up.0 (get_or xs i d) (get_in xs i d (omega arith))
+ascends_at R (x ∷ xs) up zero (suc i) d h g = above_at R x xs up.0 (get_or xs i d) (get_is_in xs i d (omega arith))
 ascends_at R (x ∷ xs) up (suc k) (suc i) d h g = ascends_at R xs up.1 k i d (omega arith) (omega arith)
 
 module _ {A : Type 0} {R : A → A → Ordering} (law : IsLawful R) where

@@ -13,15 +13,16 @@ use Rattle.std.proofs.lemmas.List.Sorted.{Contains-permutation, IsPermutation-sy
 use Rattle.asp_defs.specs.Lists.{IsIn}
 use Rattle.asp_defs.specs.Constants.{distinct}
 use Rattle.asp_defs.proofs.Lists.{map_at, map_from}
+use Rattle.asp_check.proofs.Steps.{get_is_in}
 use Rattle.asp_atoms.specs.Ascending.{AllAbove, Ascends}
 use Rattle.asp_atoms.proofs.Orders.{IsLawful}
 use Rattle.asp_atoms.proofs.Ascending.{distinct_is}
-use Rattle.asp_atoms.proofs.Positions.{get_in, stands}
+use Rattle.asp_atoms.proofs.Positions.{stands}
 
 -- ---- members and places
 
 pub contains_in : {X : Type 0} (xs : List X) (x : X) → Contains xs x → IsIn x xs
-contains_in xs x c = subst (λ y. IsIn y xs) c.2 (get_in xs c.0 x c.1)
+contains_in xs x c = subst (λ y. IsIn y xs) c.2 (get_is_in xs c.0 x c.1)
 
 pub in_contains : {X : Type 0} (xs : List X) (x : X) → IsIn x xs → Contains xs x
 in_contains xs x i = let s = stands xs x i in (s.at, s.below, s.is x)

@@ -15,9 +15,10 @@ use Rattle.asp_defs.specs.Lists.{IsIn}
 use Rattle.asp_defs.specs.Constants.{const_cmp, atom_cmp}
 use Rattle.asp_defs.specs.Bases.{Predicate, predicate_cmp, product, predicate_atoms}
 use Rattle.asp_defs.proofs.Lists.{map_at, map_from}
+use Rattle.asp_check.proofs.Members.{flat_at, flat_from}
 use Rattle.asp_atoms.specs.Ascending.{Ascends}
 use Rattle.asp_atoms.proofs.Orders.{bytes_lawful, nat_lawful, const_lawful, lists_lawful, atom_lawful}
-use Rattle.asp_atoms.proofs.Ascending.{ascends_flat_map, ascends_map, flat_map_at, flat_map_in}
+use Rattle.asp_atoms.proofs.Ascending.{ascends_flat_map, ascends_map}
 
 -- a constant before each of some tuples
 abbrev pub before : List (List Const) → Const → List (List Const)
@@ -71,12 +72,12 @@ record Longer (T : List (List Const)) (U : List Const) (t : List Const) : Type 0
 
 longer_at : (T : List (List Const)) (U : List Const) (t : List Const) → IsIn t (flat_map (before T) U) → Longer T U t
 longer_at T U t i =
-    let x = flat_map_at (before T) U t i in
+    let x = flat_at (before T) U t i in
     let s = map_at (λ tuple. x.0 ∷ tuple) T t x.2 in
     record { head = x.0; tail = s.0; member = x.1; rest = s.1; is = s.2 }
 
 longer_from : (T : List (List Const)) (U : List Const) (x : Const) (s : List Const) → IsIn x U → IsIn s T → IsIn (x ∷ s) (flat_map (before T) U)
-longer_from T U x s i j = flat_map_in (before T) U x (x ∷ s) i (map_from (λ tuple. x ∷ tuple) T s j)
+longer_from T U x s i j = flat_from (before T) U x (x ∷ s) i (map_from (λ tuple. x ∷ tuple) T s j)
 
 pub tuple_long : (arity : ℕ) (U : List Const) (t : List Const) → IsIn t (tuples arity U) → length t ≡ arity
 tuple_long zero U t (inl e) = ap length e

@@ -14,9 +14,10 @@ use Rattle.asp_defs.specs.Constants.{atom_cmp, universe}
 use Rattle.asp_defs.specs.Bases.{predicates, predicate_atoms, base_atoms, atom_number, last_level}
 use Rattle.asp_defs.specs.Games.{ascends, within, nested}
 use Rattle.asp_defs.proofs.Lists.{all_from, any_from, and_true, map_at, map_from}
+use Rattle.asp_check.proofs.Members.{flat_at, flat_from}
 use Rattle.asp_atoms.specs.Ascending.{Ascends}
 use Rattle.asp_atoms.proofs.Orders.{atom_lawful}
-use Rattle.asp_atoms.proofs.Ascending.{never_back, flat_map_at, flat_map_in}
+use Rattle.asp_atoms.proofs.Ascending.{never_back}
 use Rattle.asp_atoms.proofs.Positions.{Stands, stands, ascends_at, place_of, place_below}
 use Rattle.asp_atoms.proofs.Tupling.{applied, tuples, tuple_from, tuple_wider, atoms_ascend}
 use Rattle.asp_atoms.proofs.Levels.{get_number, length_numbers}
@@ -29,16 +30,16 @@ use Rattle.asp_atoms.proofs.Assembling.{universe_ascends, universe_grows, predic
 pub base_from : (p : Program) (i : ℕ) (name : List ℕ) (args : List Const) → IsIn (record { name = name; arity = length args }) (predicates p i) → ((x : Const) → IsIn x args → IsIn x (universe p i)) → IsIn (record { name = name; args = args }) (base_atoms p i)
 base_from p i name args q h =
     let pred = make_predicate name (length args) in
-    flat_map_in (predicate_atoms (universe p i)) (predicates p i) pred (applied pred args) q
+    flat_from (predicate_atoms (universe p i)) (predicates p i) pred (applied pred args) q
     (map_from (applied pred) (tuples (length args) (universe p i)) args (tuple_from (length args) (universe p i) args refl h))
 
 pub base_grows : (p : Program) (i j : ℕ) → i ≤ j → (a : GroundAtom) → IsIn a (base_atoms p i) → IsIn a (base_atoms p j)
 base_grows p i j h a m =
-    let q = flat_map_at (predicate_atoms (universe p i)) (predicates p i) a m in
+    let q = flat_at (predicate_atoms (universe p i)) (predicates p i) a m in
     let t = map_at (applied q.0) (tuples (q.0).arity (universe p i)) a q.2 in
     let wide = tuple_wider (q.0).arity (universe p i) (universe p j) (universe_grows p i j h) t.0 t.1 in
     subst (λ b. IsIn b (base_atoms p j)) (sym t.2)
-    (flat_map_in (predicate_atoms (universe p j)) (predicates p j) q.0 (applied q.0 t.0) (predicates_grow p i j h q.0 q.1)
+    (flat_from (predicate_atoms (universe p j)) (predicates p j) q.0 (applied q.0 t.0) (predicates_grow p i j h q.0 q.1)
     (map_from (applied q.0) (tuples (q.0).arity (universe p j)) t.0 wide))
 
 pub base_ascends : (p : Program) (i : ℕ) → Ascends atom_cmp (base_atoms p i)

@@ -21,9 +21,10 @@ use Rattle.asp_defs.specs.Safety.{shown_number}
 use Rattle.asp_defs.proofs.Lists.{all_from, map_at}
 use Rattle.asp_defs.proofs.TextRefutations.{clash}
 use Rattle.asp_check.specs.Condition.{has_intervals_in_facts}
+use Rattle.asp_check.proofs.Members.{flat_at, flat_from}
+use Rattle.asp_check.proofs.Steps.{get_is_in}
 use Rattle.asp_atoms.proofs.Orders.{const_lawful, predicate_lawful}
-use Rattle.asp_atoms.proofs.Ascending.{distinct_from, flat_map_at, flat_map_in}
-use Rattle.asp_atoms.proofs.Positions.{get_in}
+use Rattle.asp_atoms.proofs.Ascending.{distinct_from}
 use Rattle.asp_atoms.proofs.Counting.{levels_long}
 use Rattle.asp_ground.proofs.BaseAtoms.{base_numbers}
 use Rattle.asp_ground.proofs.SchemaAtoms.{instance_is, instance_within}
@@ -60,53 +61,53 @@ take_in (x ∷ xs) (suc k) (suc n) d h g = inr (take_in xs k n d (omega arith) (
 rule_to : (p : Program) (i : ℕ) → 1 ≤ i → i ≤ last_level p → (r : Rule) → IsIn r (written_rules p i) → IsIn r (rules_to p i)
 rule_to p i low high r m =
     let long = levels_long p in
-    flat_map_in (λ (rules : List Rule). rules) (take i (level_rules p)) (written_rules p i) r
+    flat_from (λ (rules : List Rule). rules) (take i (level_rules p)) (written_rules p i) r
     (take_in (level_rules p) (i - 1) i [] (omega (arith, low)) (omega (arith, long, low, high))) m
 
 -- a rule of a level is one of the program's
 pub rule_of_program : (p : Program) (i : ℕ) → 1 ≤ i → i ≤ last_level p → (r : Rule) → IsIn r (written_rules p i) → IsIn r (flat_map (λ (rules : List Rule). rules) (level_rules p))
 rule_of_program p i low high r m =
     let long = levels_long p in
-    flat_map_in (λ (rules : List Rule). rules) (level_rules p) (written_rules p i) r
-    (get_in (level_rules p) (i - 1) [] (omega (arith, long, low, high))) m
+    flat_from (λ (rules : List Rule). rules) (level_rules p) (written_rules p i) r
+    (get_is_in (level_rules p) (i - 1) [] (omega (arith, long, low, high))) m
 
 written_in : (p : Program) (i : ℕ) (r : Rule) → IsIn r (rules_to p i) → Written (universe p i) (predicates p i) (rule_constants r) (rule_predicates r)
 written_in p i r m = record {
-  constants = λ c j. distinct_from const_lawful (flat_map rule_constants (rules_to p i)) c (flat_map_in rule_constants (rules_to p i) r c m j);
-  predicates = λ q j. distinct_from predicate_lawful (flat_map rule_predicates (rules_to p i)) q (flat_map_in rule_predicates (rules_to p i) r q m j);
+  constants = λ c j. distinct_from const_lawful (flat_map rule_constants (rules_to p i)) c (flat_from rule_constants (rules_to p i) r c m j);
+  predicates = λ q j. distinct_from predicate_lawful (flat_map rule_predicates (rules_to p i)) q (flat_from rule_predicates (rules_to p i) r q m j);
 }
 
 -- ---- what holds of each rule of a level
 
 rule_within : (p : Program) (i : ℕ) (r : Rule) → IsIn r (rules_to p i) → has_intervals_in_facts r ≡ true → (g : GroundRule) → IsIn g (rule_instances (base_atoms p (last_level p)) (universe p i) r) → within (rule_atoms g) (base_numbers p i) ≡ true
 rule_within p i r m single g j =
-    let s = flat_map_at (λ s. flat_map (instance (base_atoms p (last_level p)) s) (assignments (universe p i) s)) (schemas r) g j in
-    let values = flat_map_at (instance (base_atoms p (last_level p)) s.0) (assignments (universe p i) s.0) g s.2 in
+    let s = flat_at (λ s. flat_map (instance (base_atoms p (last_level p)) s) (assignments (universe p i) s)) (schemas r) g j in
+    let values = flat_at (instance (base_atoms p (last_level p)) s.0) (assignments (universe p i) s.0) g s.2 in
     instance_within p i s.0 values.0 values.1
     (schema_known (universe p i) (predicates p i) r.head r.body (written_in p i r m) single s.0 s.1) g values.2
 
 rule_formed : (atoms : List GroundAtom) (U : List Const) (r : Rule) (g : GroundRule) → IsIn g (rule_instances atoms U r) → is_formed g ≡ true
 rule_formed atoms U r g j =
-    let s = flat_map_at (λ s. flat_map (instance atoms s) (assignments U s)) (schemas r) g j in
-    let values = flat_map_at (instance atoms s.0) (assignments U s.0) g s.2 in
+    let s = flat_at (λ s. flat_map (instance atoms s) (assignments U s)) (schemas r) g j in
+    let values = flat_at (instance atoms s.0) (assignments U s.0) g s.2 in
     ap is_formed (instance_is atoms s.0 values.0 g values.2) ∙ instance_formed atoms r.head r.body s.0 values.0 s.1
 
 rule_constraint : (atoms : List GroundAtom) (U : List Const) (r : Rule) → is_constraint_rule r ≡ true → (g : GroundRule) → IsIn g (rule_instances atoms U r) → is_constraint g ≡ true
 rule_constraint atoms U r h g j =
-    let s = flat_map_at (λ s. flat_map (instance atoms s) (assignments U s)) (schemas r) g j in
-    let values = flat_map_at (instance atoms s.0) (assignments U s.0) g s.2 in
+    let s = flat_at (λ s. flat_map (instance atoms s) (assignments U s)) (schemas r) g j in
+    let values = flat_at (instance atoms s.0) (assignments U s.0) g s.2 in
     ap is_constraint (instance_is atoms s.0 values.0 g values.2) ∙ instance_constraint atoms r.head r.body s.0 values.0 h s.1
 
 -- ---- levels of ground rules
 
 pub level_within : (p : Program) → ((r : Rule) → IsIn r (flat_map (λ (rules : List Rule). rules) (level_rules p)) → has_intervals_in_facts r ≡ true) → (i : ℕ) → 1 ≤ i → i ≤ last_level p → list_all (λ g. within (rule_atoms g) (base_numbers p i)) (level_ground p (i, written_rules p i)) ≡ true
 level_within p single i low high = all_from (λ g. within (rule_atoms g) (base_numbers p i)) (level_ground p (i, written_rules p i)) (λ g j.
-    let r = flat_map_at (rule_instances (base_atoms p (last_level p)) (universe p i)) (written_rules p i) g j in
+    let r = flat_at (rule_instances (base_atoms p (last_level p)) (universe p i)) (written_rules p i) g j in
     rule_within p i r.0 (rule_to p i low high r.0 r.1) (single r.0 (rule_of_program p i low high r.0 r.1)) g r.2)
 
 level_formed : (p : Program) (level : ℕ × List Rule) → list_all is_formed (level_ground p level) ≡ true
 level_formed p level = all_from is_formed (level_ground p level) (λ g j.
-    let r = flat_map_at (rule_instances (base_atoms p (last_level p)) (universe p level.0)) level.1 g j in
+    let r = flat_at (rule_instances (base_atoms p (last_level p)) (universe p level.0)) level.1 g j in
     rule_formed (base_atoms p (last_level p)) (universe p level.0) r.0 g r.2)
 
 -- what stands at a place of a list, or behind its end
@@ -127,7 +128,7 @@ levels_formed p k = elim (at_place (map (level_ground p) (enumerate_from 1 (leve
 
 pub level_constraints : (p : Program) → ((r : Rule) → IsIn r p.cons → is_constraint_rule r ≡ true) → (i : ℕ) → list_all is_constraint (level_ground p (i, p.cons)) ≡ true
 level_constraints p h i = all_from is_constraint (level_ground p (i, p.cons)) (λ g j.
-    let r = flat_map_at (rule_instances (base_atoms p (last_level p)) (universe p i)) p.cons g j in
+    let r = flat_at (rule_instances (base_atoms p (last_level p)) (universe p i)) p.cons g j in
     rule_constraint (base_atoms p (last_level p)) (universe p i) r.0 (h r.0 r.1) g r.2)
 
 get_last : {A : Type 0} (xs : List A) (y d : A) → get_or (xs ++ y ∷ []) (length xs) d ≡ y

@@ -18,6 +18,7 @@ use Rattle.asp_defs.specs.Constants.{const_cmp, atom_cmp}
 use Rattle.asp_defs.specs.Bases.{Predicate, predicate_cmp, atom_predicate, atom_number}
 use Rattle.asp_defs.specs.Instances.{same_variable, term_value, atom_instance, op_holds}
 use Rattle.asp_defs.proofs.Lists.{map_at}
+use Rattle.asp_check.proofs.Steps.{get_is_in}
 use Rattle.asp_atoms.specs.declared.vocabularies.NumberedPredicate.{NumberedPredicate}
 use Rattle.asp_atoms.specs.declared.vocabularies.Vocabulary.{Vocabulary}
 use Rattle.asp_ground.specs.declared.template.Slot.{Slot}
@@ -25,7 +26,7 @@ use Rattle.asp_atoms.specs.Ascending.{Ascends}
 use Rattle.asp_atoms.specs.Vocabularies.{const_rank, unnumbered}
 use Rattle.asp_atoms.proofs.Orders.{nat_lawful, const_lawful, predicate_lawful}
 use Rattle.asp_atoms.proofs.Ascending.{turned_back}
-use Rattle.asp_atoms.proofs.Positions.{get_in, ascends_at, place_at, place_of, place_below, at_place, stands as stands_at}
+use Rattle.asp_atoms.proofs.Positions.{ascends_at, place_at, place_of, place_below, at_place, stands as stands_at}
 use Rattle.asp_ground.specs.Ranks.{capped, rank_of, predicate_place, first_of}
 use Rattle.asp_ground.specs.Templates.{slot_rank, number_at, with_digit}
 use Rattle.asp_ground.specs.Compiled.{slot_of, atom_template}
@@ -63,7 +64,7 @@ constant_valued v c up few i =
 variable_valued : (v : Vocabulary) (place count : ℕ) (ranks : List ℕ) → place < count → length ranks ≡ count → ((rank : ℕ) → IsIn rank ranks → rank < length v.constants) → (get_or ranks place 0 < length v.constants) × (get_or (map (const_at v.constants) ranks) place (const.Sym []) ≡ const_at v.constants (get_or ranks place 0))
 variable_valued v place count ranks h same below =
     let inside : place < length ranks = omega (arith, h, same) in
-    (below (get_or ranks place 0) (get_in ranks place 0 inside), get_or-map (const_at v.constants) ranks place 0 (const.Sym []) inside)
+    (below (get_or ranks place 0) (get_is_in ranks place 0 inside), get_or-map (const_at v.constants) ranks place 0 (const.Sym []) inside)
 
 pub valued : (v : Vocabulary) (variables : List Term) (ranks : List ℕ) (t : Term) → Ascends const_cmp v.constants → length v.constants ≤ 4294967295 → length ranks ≡ length variables → ((rank : ℕ) → IsIn rank ranks → rank < length v.constants) → KnownTerm v variables t → Valued v variables ranks t
 valued v variables ranks (Int x) up few same below known =
@@ -136,7 +137,7 @@ places_at constants (rank ∷ ranks) up below =
 consts_in : (constants : List Const) (ranks : List ℕ) → ((rank : ℕ) → IsIn rank ranks → rank < length constants) → (c : Const) → IsIn c (map (const_at constants) ranks) → IsIn c constants
 consts_in constants ranks below c i =
     let found = map_at (const_at constants) ranks c i in
-    subst (λ (d : Const). IsIn d constants) (sym found.2) (get_in constants found.0 (const.Sym []) (below found.0 found.1))
+    subst (λ (d : Const). IsIn d constants) (sym found.2) (get_is_in constants found.0 (const.Sym []) (below found.0 found.1))
 
 -- the number of an atom of a predicate whose arguments have ranks
 pub number_of_ranks : (atoms : List GroundAtom) (v : Vocabulary) (q : NumberedPredicate) (ranks : List ℕ) → Numbers atoms v → IsIn q v.predicates → length ranks ≡ q.arity → ((rank : ℕ) → IsIn rank ranks → rank < length v.constants) → atom_number atoms (make_ground q.name (map (const_at v.constants) ranks)) ≡ q.first + read (length v.constants) 0 ranks

@@ -8,9 +8,10 @@ use Rattle.asp_defs.specs.declared.ground.Const.{Const}
 use Rattle.asp_defs.specs.declared.ground.Const.TheVariants as const
 use Rattle.asp_defs.specs.Lists.{IsIn}
 use Rattle.asp_defs.specs.Constants.{const_cmp, integers_from, interval_length}
+use Rattle.asp_check.proofs.Steps.{get_is_in}
 use Rattle.asp_atoms.specs.Ascending.{Ascends}
 use Rattle.asp_atoms.proofs.Integers.{ends, swapped}
-use Rattle.asp_atoms.proofs.Positions.{ascends_at, get_in}
+use Rattle.asp_atoms.proofs.Positions.{ascends_at}
 use Rattle.asp_ground.specs.Gaps.{IsAt, HasAll}
 
 abbrev some_const : Const
@@ -100,7 +101,7 @@ interval_there cs up low high first steps long begins finishes c i = run_in cs (
         let here : first + k < length cs = omega (arith, inside) in
         subst (λ d. IsIn d cs)
         (between cs up k m first low inside (begins.is some_const) (subst (λ n. get_or cs (first + n) some_const ≡ const.Int (low +ℤ pos n)) (sym e) last))
-        (get_in cs (first + k) some_const here)
+        (get_is_in cs (first + k) some_const here)
 
     each : (k : ℕ) → k < interval_length low high → IsIn (const.Int (low +ℤ pos k)) cs
     each k h =

@@ -22,7 +22,7 @@ use Rattle.asp_defs.specs.Games.{is_formed, is_constraint}
 use Rattle.asp_defs.proofs.Lists.{both, and_true, all_at, all_from, append_at, append_left, append_right, map_at, map_from}
 use Rattle.asp_defs.proofs.TextRefutations.{clash}
 use Rattle.asp_check.specs.Condition.{is_single, is_single_atom, is_single_literal, is_single_element, is_single_head, has_intervals_in_facts}
-use Rattle.asp_atoms.proofs.Ascending.{flat_map_at, flat_map_in}
+use Rattle.asp_check.proofs.Members.{flat_at, flat_from}
 use Rattle.asp_ground.proofs.Parts.{make_predicate, make_rule, with_args, disjunctive_written, element_written}
 use Rattle.asp_ground.proofs.Products.{tuple_length, tuple_member}
 use Rattle.asp_ground.proofs.Occurrences.{occurs}
@@ -46,12 +46,12 @@ disjunctive_known U Q atoms body written heads rest = record {
 
     atom_part : (a : Atom) → IsIn a atoms → Part U Q (first_occurrences (disjunctive_written atoms body)) (atom_constants a) (atom_predicate a ∷ []) (atom_variables a)
     atom_part a i = record {
-      constants = λ c j. written.constants c (append_left (flat_map atom_constants atoms) (flat_map literal_constants body) c (flat_map_in atom_constants atoms a c i j));
+      constants = λ c j. written.constants c (append_left (flat_map atom_constants atoms) (flat_map literal_constants body) c (flat_from atom_constants atoms a c i j));
       predicates = λ q j. elim j [
         | inl e ↦ subst (λ r. IsIn r Q) (sym e) (written.predicates (atom_predicate a) (append_left (map atom_predicate atoms) (flat_map literal_predicates body) (atom_predicate a) (map_from atom_predicate atoms a i)))
         | inr k ↦ absurd k
       ];
-      variables = λ w same j. occurs (disjunctive_written atoms body) w same (append_left (flat_map atom_variables atoms) (flat_map literal_variables body) w (flat_map_in atom_variables atoms a w i j));
+      variables = λ w same j. occurs (disjunctive_written atoms body) w same (append_left (flat_map atom_variables atoms) (flat_map literal_variables body) w (flat_from atom_variables atoms a w i j));
     }
 
     body_part : Part U Q (first_occurrences (disjunctive_written atoms body)) (flat_map literal_constants body) (flat_map literal_predicates body) (flat_map literal_variables body)
@@ -82,10 +82,10 @@ element_known U Q elements body e m written here rest = record {
     single = both (is_single_atom e.atom) (list_all is_single_literal e.cond) here
 
     known_constant : (c : Const) → IsIn c (atom_constants e.atom ++ flat_map literal_constants e.cond) → IsIn c U
-    known_constant c i = written.constants c (append_left (flat_map element_constants elements) (flat_map literal_constants body) c (flat_map_in element_constants elements e c m i))
+    known_constant c i = written.constants c (append_left (flat_map element_constants elements) (flat_map literal_constants body) c (flat_from element_constants elements e c m i))
 
     known_predicate : (q : Predicate) → IsIn q (atom_predicate e.atom ∷ flat_map literal_predicates e.cond) → IsIn q Q
-    known_predicate q i = written.predicates q (append_left (flat_map element_predicates elements) (flat_map literal_predicates body) q (flat_map_in element_predicates elements e q m i))
+    known_predicate q i = written.predicates q (append_left (flat_map element_predicates elements) (flat_map literal_predicates body) q (flat_from element_predicates elements e q m i))
 
     atom_part : Part U Q (first_occurrences (element_written body e)) (atom_constants e.atom) (atom_predicate e.atom ∷ []) (atom_variables e.atom)
     atom_part = record {
@@ -157,9 +157,9 @@ fact_known U Q a args written m =
     constants c i = elim (append_at (flat_map atom_constants (with_args a args ∷ [])) [] c i) [
       | inl j ↦ elim (append_at (atom_constants (with_args a args)) [] c j) [
         | inl k ↦
-            let u = flat_map_at term_constants args c k in
+            let u = flat_at term_constants args c k in
             let t = chosen_from a args m u.0 u.1 in
-            written.constants c (append_left (flat_map atom_constants (a ∷ [])) [] c (append_left (atom_constants a) [] c (flat_map_in term_constants a.args t.0 c t.1 (chosen_constant t.0 u.0 t.2 c u.2))))
+            written.constants c (append_left (flat_map atom_constants (a ∷ [])) [] c (append_left (atom_constants a) [] c (flat_from term_constants a.args t.0 c t.1 (chosen_constant t.0 u.0 t.2 c u.2))))
         | inr k ↦ absurd k
       ]
       | inr j ↦ absurd j

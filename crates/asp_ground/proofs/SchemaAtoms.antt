@@ -21,8 +21,8 @@ use Rattle.asp_defs.specs.Games.{within, rule_atoms}
 use Rattle.asp_defs.proofs.Lists.{all_at, append_at, map_at, map_from}
 use Rattle.asp_defs.proofs.TextRefutations.{clash}
 use Rattle.asp_check.specs.Condition.{is_single, is_single_atom, is_single_literal}
-use Rattle.asp_atoms.proofs.Ascending.{flat_map_at, flat_map_in}
-use Rattle.asp_atoms.proofs.Positions.{get_in}
+use Rattle.asp_check.proofs.Members.{flat_at, flat_from}
+use Rattle.asp_check.proofs.Steps.{get_is_in}
 use Rattle.asp_ground.proofs.Parts.{make_predicate}
 use Rattle.asp_ground.proofs.Products.{tuple_length, tuple_member, in_replicate}
 use Rattle.asp_ground.proofs.Occurrences.{itself_in, any_place}
@@ -36,9 +36,9 @@ pub record Part (U : List Const) (Q : List Predicate) (vars : List Term) (cs : L
 
 pub each_part : {A : Type 0} {U : List Const} {Q : List Predicate} {vars : List Term} (f : A → List Const) (g : A → List Predicate) (h : A → List Term) (xs : List A) (x : A) → IsIn x xs → Part U Q vars (flat_map f xs) (flat_map g xs) (flat_map h xs) → Part U Q vars (f x) (g x) (h x)
 each_part f g h xs x m part = record {
-  constants = λ c i. part.constants c (flat_map_in f xs x c m i);
-  predicates = λ q i. part.predicates q (flat_map_in g xs x q m i);
-  variables = λ w same i. part.variables w same (flat_map_in h xs x w m i);
+  constants = λ c i. part.constants c (flat_from f xs x c m i);
+  predicates = λ q i. part.predicates q (flat_from g xs x q m i);
+  variables = λ w same i. part.variables w same (flat_from h xs x w m i);
 }
 
 -- ---- the values of terms
@@ -56,7 +56,7 @@ variable_in U vars values d v i h =
     let count = length-replicate (length vars) U in
     let place = any_place (same_variable v) vars h in
     let there : at < length values = omega (arith, long, count, place) in
-    let from = tuple_member (replicate (length vars) U) values (get_or values at d) i (get_in values at d there) in
+    let from = tuple_member (replicate (length vars) U) values (get_or values at d) i (get_is_in values at d there) in
     subst (λ xs. IsIn (get_or values at d) xs) (in_replicate (length vars) U from.0 from.1) from.2
 
 value_in : (U : List Const) (vars : List Term) (values : List Const) (t : Term) → IsIn values (product (replicate (length vars) U)) → KnownTerm U vars t → IsIn (term_value vars values t) U
@@ -76,8 +76,8 @@ pub known_atom : (U : List Const) (Q : List Predicate) (vars : List Term) (a : A
 known_atom U Q vars a part single = record {
   predicate = part.predicates (atom_predicate a) (inl refl);
   terms = λ t i. record {
-    constants = λ c j. part.constants c (flat_map_in term_constants a.args t c i j);
-    variables = λ w j. part.variables w (itself_in t w j) (flat_map_in term_variables a.args t w i j);
+    constants = λ c j. part.constants c (flat_from term_constants a.args t c i j);
+    variables = λ w j. part.variables w (itself_in t w j) (flat_from term_variables a.args t w i j);
     single = all_at is_single a.args t single i;
   };
 }
@@ -144,9 +144,9 @@ under_within p i s values m known n j =
       | inl k ↦ numbered s.heads (λ a h. known.heads a h) k
       | inr k ↦ elim (append_at (map number (flat_map pos_atoms s.body)) (map number (flat_map neg_atoms s.body)) n k) [
         | inl h ↦ numbered (flat_map pos_atoms s.body) (λ a g.
-            let l = flat_map_at pos_atoms s.body a g in pos_known (universe p i) (predicates p i) s.variables l.0 (known.body l.0 l.1) a l.2) h
+            let l = flat_at pos_atoms s.body a g in pos_known (universe p i) (predicates p i) s.variables l.0 (known.body l.0 l.1) a l.2) h
         | inr h ↦ numbered (flat_map neg_atoms s.body) (λ a g.
-            let l = flat_map_at neg_atoms s.body a g in neg_known (universe p i) (predicates p i) s.variables l.0 (known.body l.0 l.1) a l.2) h
+            let l = flat_at neg_atoms s.body a g in neg_known (universe p i) (predicates p i) s.variables l.0 (known.body l.0 l.1) a l.2) h
       ]
     ]
   where
