@@ -1,6 +1,6 @@
 -- The instances that are counted from the front of a program are all that it has.
-use Rattle.std.proofs.Common.{ℕ, ℤ, zero, suc, ◌≡◌, ◌≤◌, ◌+◌, ◌*◌, ◌^◌, refl, sym, ◌∙◌, ap, subst, inl, inr, Bool, ◌&&◌, List, [], ◌∷◌, ◌++◌, append-nil, append_assoc, zero-add, map, take, length, arith}
-use Rattle.std.specs.Prelude.{if◌then◌else◌, IsTrue, None, ◌==◌, pos, ◌+ℤ◌}
+use Rattle.std.proofs.Common.{ℕ, suc, ◌≡◌, ◌≤◌, ◌+◌, ◌*◌, ◌^◌, refl, sym, ◌∙◌, ap, subst, inl, inr, Bool, ◌&&◌, List, [], ◌∷◌, ◌++◌, append-nil, append_assoc, zero-add, map, take, length, arith}
+use Rattle.std.specs.Prelude.{if◌then◌else◌, IsTrue, None, ◌==◌}
 use Rattle.std.specs.List.{flat_map, fold, sum_by, enumerate_from}
 use Rattle.std.proofs.lemmas.Bool.{ne_eqb, lt-ltb}
 use Rattle.std.proofs.Math.Nat.{pow-zero}
@@ -15,7 +15,7 @@ use Rattle.asp_defs.specs.declared.syntax.Head.TheVariants.{Disj, Choice}
 use Rattle.asp_defs.specs.declared.syntax.Rule.{Rule}
 use Rattle.asp_defs.specs.declared.syntax.Program.{Program}
 use Rattle.asp_defs.specs.Lists.{IsIn}
-use Rattle.asp_defs.specs.Constants.{const_cmp, with_member, distinct, integers_from, interval, interval_length, rule_constants, level_rules, rules_to, universe}
+use Rattle.asp_defs.specs.Constants.{const_cmp, with_member, distinct, interval, interval_length, rule_constants, level_rules, rules_to, universe}
 use Rattle.asp_defs.specs.Bases.{product, last_level}
 use Rattle.asp_defs.specs.Instances.{Schema, term_variables, first_occurrences, term_choices, spread, disjunctive_schema, element_schema, head_schemas, instance_count}
 use Rattle.asp_defs.specs.Safety.{all_rules}
@@ -31,6 +31,7 @@ use Rattle.asp_atoms.specs.Answers.{base_too_large}
 use Rattle.asp_atoms.proofs.Orders.{const_lawful}
 use Rattle.asp_atoms.proofs.Ascending.{in_with, with_new, with_old, ascends_with, ascends_distinct, in_distinct, distinct_from, distinct_is}
 use Rattle.asp_atoms.proofs.Gathering.{few_constants}
+use Rattle.asp_atoms.proofs.Integers.{length_integers}
 use Rattle.asp_ground.proofs.Parts.{make_rule, with_args, suc_is_not, more_is_not}
 use Rattle.asp_ground.specs.Variables.{disjunctive_variables, element_variables}
 use Rattle.asp_ground.specs.Counts.{with_constant, choice_count, fact_count, head_count, rule_count, counted_from}
@@ -125,10 +126,6 @@ product_count n (xs ∷ xss) =
   where
     times : (a b c : ℕ) → a * b * c ≡ a * (b * c)
     times a b c = omega arith
-
-length_integers : (z : ℤ) (n : ℕ) → length (integers_from z n) ≡ n
-length_integers z zero = refl
-length_integers z (suc n) = ap suc (length_integers (z +ℤ pos 1) n)
 
 choices_counted : (t : Term) → length (term_choices t) ≡ choice_count t
 choices_counted (Int x) = refl

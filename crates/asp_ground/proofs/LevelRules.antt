@@ -1,6 +1,6 @@
 -- The ground rules of a program's levels: where they stand in the game, that their atoms stand in their level's base, and
 -- their form.
-use Rattle.std.proofs.Common.{ℕ, zero, suc, ◌≡◌, ◌+◌, ◌-◌, ◌<◌, ◌≤◌, ◌⊎◌, refl, ◌∙◌, ap, inl, inr, Bool, true, false, List, [], ◌∷◌, ◌++◌, map, take, length, get_or, arith, Option, Some, None}
+use Rattle.std.proofs.Common.{ℕ, zero, suc, ◌≡◌, ◌+◌, ◌-◌, ◌<◌, ◌≤◌, ◌⊎◌, refl, ◌∙◌, ap, inl, inr, Bool, true, false, List, [], ◌∷◌, map, take, length, get_or, arith, Option, Some, None}
 use Rattle.std.specs.Prelude.{is_none}
 use Rattle.std.specs.List.{flat_map, list_all, enumerate_from}
 use Rattle.std.proofs.lemmas.List.{length-map, get_or-map}
@@ -23,6 +23,7 @@ use Rattle.asp_defs.proofs.TextRefutations.{clash}
 use Rattle.asp_check.specs.Condition.{has_intervals_in_facts}
 use Rattle.asp_check.proofs.Members.{flat_at, flat_from}
 use Rattle.asp_check.proofs.Steps.{get_is_in}
+use Rattle.asp_check.proofs.Places.{get_seam}
 use Rattle.asp_atoms.proofs.Orders.{const_lawful, predicate_lawful}
 use Rattle.asp_atoms.proofs.Ascending.{distinct_from}
 use Rattle.asp_atoms.proofs.Counting.{levels_long}
@@ -131,15 +132,11 @@ level_constraints p h i = all_from is_constraint (level_ground p (i, p.cons)) (�
     let r = flat_at (rule_instances (base_atoms p (last_level p)) (universe p i)) p.cons g j in
     rule_constraint (base_atoms p (last_level p)) (universe p i) r.0 (h r.0 r.1) g r.2)
 
-get_last : {A : Type 0} (xs : List A) (y d : A) → get_or (xs ++ y ∷ []) (length xs) d ≡ y
-get_last [] y d = refl
-get_last (x ∷ xs) y d = get_last xs y d
-
 pub last_rules : (p : Program) → written_rules p (last_level p) ≡ p.cons
 last_rules p =
     let long = length-map p.levels (λ (part : Part). part.rules) in
     let place : last_level p - 1 ≡ length (map (λ (part : Part). part.rules) p.levels) = omega (arith, long) in
-    ap (λ k. get_or (level_rules p) k []) place ∙ get_last (map (λ (part : Part). part.rules) p.levels) p.cons []
+    ap (λ k. get_or (level_rules p) k []) place ∙ get_seam (map (λ (part : Part). part.rules) p.levels) p.cons []
 
 -- a list with no headed rule has constraints alone
 abbrev headed_first : Bool → ℕ → List Rule → Option ℕ

@@ -1,9 +1,9 @@
 -- The game of a checked program is that of its compiled rules.
-use Rattle.std.proofs.Common.{ℕ, suc, ◌≡◌, ◌<◌, ◌≤◌, ◌+◌, refl, sym, ◌∙◌, ap, subst, inl, inr, Bool, true, Option, Some, None, List, [], ◌∷◌, map, take, length, get_or, arith, zero-add, min, max}
+use Rattle.std.proofs.Common.{ℕ, suc, ◌≡◌, ◌<◌, ◌≤◌, ◌+◌, refl, sym, ◌∙◌, ap, subst, inl, inr, Bool, true, Option, Some, None, List, [], ◌∷◌, map, take, length, get_or, arith, zero-add, min}
 use Rattle.std.specs.Prelude.{if◌then◌else◌, IsTrue, is_none}
-use Rattle.std.specs.List.{flat_map, fold, enumerate_from}
+use Rattle.std.specs.List.{flat_map, enumerate_from}
 use Rattle.std.specs.Option.{option_or, option_map}
-use Rattle.std.proofs.lemmas.Bool.{cases_lt, lt-ltb, le-ltb}
+use Rattle.std.proofs.lemmas.Bool.{cases_lt, lt-ltb}
 use Rattle.std.proofs.lemmas.List.{get_or-map, take_all, map-id}
 use Rattle.asp_defs.specs.declared.faults.Which.{Which}
 use Rattle.asp_defs.specs.declared.faults.Which.TheVariants as which
@@ -31,7 +31,7 @@ use Rattle.asp_atoms.proofs.Orders.{const_lawful, predicate_lawful}
 use Rattle.asp_atoms.proofs.Ascending.{ascends_distinct, in_distinct, distinct_from}
 use Rattle.asp_atoms.proofs.Assembling.{number_reads}
 use Rattle.asp_atoms.proofs.Choosing.{unnumbered_all}
-use Rattle.asp_atoms.proofs.Counting.{levels_long, within_limit, second_none}
+use Rattle.asp_atoms.proofs.Counting.{levels_long, within_limit, second_none, limit_kept, max_member}
 use Rattle.asp_atoms.proofs.Gathering.{few_constants, few_atoms}
 use Rattle.asp_atoms.proofs.Levels.{get_number, length_numbers}
 use Rattle.asp_ground.specs.Ranks.{IsOrdered}
@@ -59,9 +59,6 @@ limited past w count = if past then Some (w, min count most_shown) else None
 
 some_is_none : {A : Type 0} (x : A) → Some x ≡ None → ⊥
 some_is_none x e = clash (ap is_none e)
-
-pub limit_kept : (w : Which) (count : ℕ) → count ≤ limit w → past_limit w count ≡ None
-limit_kept w count h = ap (λ b. limited b w count) (le-ltb (limit w) count h)
 
 -- a count that is cut off above the limit passes it as the whole one does
 pub past_cut : (count shown : ℕ) → shown ≡ min count most_shown → past_limit which.Instances shown ≡ past_limit which.Instances count
@@ -127,15 +124,6 @@ none_found None rest h = refl
 none_found (Some f) rest h = clash h
 
 -- no rule has more variables than the limit allows
-most_grows : (first : ℕ) (counts : List ℕ) → first ≤ fold max first counts
-most_grows first [] = omega arith
-most_grows first (n ∷ counts) = let rest = most_grows (max first n) counts in omega (arith, rest)
-
-most_is : (first : ℕ) (counts : List ℕ) (n : ℕ) → IsIn n counts → n ≤ fold max first counts
-most_is first [] n i = absurd i
-most_is first (m ∷ counts) n (inl e) = let rest = most_grows (max first m) counts in omega (arith, e, rest)
-most_is first (m ∷ counts) n (inr i) = most_is (max first m) counts n i
-
 none_behind : (a b : Option CheckRefusal) → is_none (option_or a b) ≡ true → is_none b ≡ true
 none_behind None b h = h
 none_behind (Some x) b h = clash h
@@ -151,7 +139,7 @@ few_variables p checked r i =
     let second = second_none (past_limit which.Arguments (most_arguments p)) (option_or (past_limit which.Literals (most_literals p)) (past_limit which.Variables (most_variables p))) first in
     let third = second_none (past_limit which.Literals (most_literals p)) (past_limit which.Variables (most_variables p)) second in
     let most : most_variables p ≤ 16 = within_limit which.Variables (most_variables p) third in
-    let here : variable_count r ≤ most_variables p = most_is 0 (map variable_count (all_rules p)) (variable_count r) (map_from variable_count (all_rules p) r i) in
+    let here : variable_count r ≤ most_variables p = max_member 0 (map variable_count (all_rules p)) (variable_count r) (map_from variable_count (all_rules p) r i) in
     omega (arith, most, here)
 
 pub rule_known : (p : Program) → IsTrue (is_checked p) → IsCheckable p → (r : Rule) → IsIn r (all_rules p) → KnownRule (vocabulary_of p) r.head r.body

@@ -2,31 +2,19 @@
 use Rattle.std.proofs.Common.{suc, ◌≡◌, ◌⊎◌, ◌<◌, ◌≤◌, ◌+◌, refl, sym, ◌∙◌, ap, subst, inl, inr, Bool, true, false, not, ◌||◌, cond, List, [], ◌∷◌, ◌++◌, append_assoc, append-nil, length, arith}
 use Rattle.std.specs.Prelude.{if◌then◌else◌}
 use Rattle.std.specs.List.{filter, fold, list_any, position_or_len}
-use Rattle.std.specs.Cmp.Lexicographic.{bytes_decides}
-use Rattle.std.proofs.lemmas.Bool.{eq-eqb, lt-ltb}
+use Rattle.std.proofs.lemmas.Bool.{lt-ltb}
 use Rattle.asp_defs.specs.declared.syntax.Term.{Term}
-use Rattle.asp_defs.specs.declared.syntax.Term.TheVariants.{Int, Sym, Var, Anon, Range}
 use Rattle.asp_defs.specs.Lists.{IsIn}
-use Rattle.asp_defs.specs.Instances.{same_variable, term_variables, first_occurrences}
+use Rattle.asp_defs.specs.Instances.{same_variable, first_occurrences}
 use Rattle.asp_defs.specs.Safety.{is_variable_of}
 use Rattle.asp_defs.proofs.Lists.{any_at, any_from, filter_at, filter_from, true_or_false, not_true, not_false, append_left, or_left, or_right}
 use Rattle.asp_defs.proofs.TextRefutations.{clash}
 use Rattle.asp_check.proofs.Members.{equal, same_truth}
-use Rattle.asp_check.proofs.Occurrences.{occurrences_more}
+use Rattle.asp_check.proofs.Occurrences.{occurrences_more, others_few}
 use Rattle.asp_check.proofs.Occurrences.{others, same_back}
 use Rattle.asp_ground.specs.Variables.{with_variable}
 
 -- ---- variables of a list, each once
-
--- a variable is the same as itself
-pub itself_in : (t w : Term) → IsIn w (term_variables t) → same_variable w w ≡ true
-itself_in (Int x) w i = absurd i
-itself_in (Sym s) w i = absurd i
-itself_in (Var v) w (inl e) = subst (λ (u : Term). same_variable u u ≡ true) (sym e) ((bytes_decides v v).1 refl)
-itself_in (Var v) w (inr i) = absurd i
-itself_in (Anon k) w (inl e) = subst (λ (u : Term). same_variable u u ≡ true) (sym e) (eq-eqb k k refl)
-itself_in (Anon k) w (inr i) = absurd i
-itself_in (Range low high) w i = absurd i
 
 pub kept_in : (v w : Term) (vs : List Term) → same_variable w v ≡ false → is_variable_of vs w ≡ true → is_variable_of (filter (λ u. not (same_variable v u)) vs) w ≡ true
 kept_in v w vs apart h =
@@ -82,14 +70,6 @@ occurrences_apart (v ∷ vs) = (
   λ y i. apart_back v y (not_true (same_variable v y) (filter_at (λ w. not (same_variable v w)) (first_occurrences vs) y i).1),
   apart_filter (λ w. not (same_variable v w)) (first_occurrences vs) (occurrences_apart vs),
 )
-
-kept_few : (b : Bool) (d : Term) (ds es : List Term) → length ds ≤ length es → length (cond b (d ∷ ds) ds) ≤ suc (length es)
-kept_few true d ds es h = omega arith
-kept_few false d ds es h = omega arith
-
-others_few : (x : Term) (ds : List Term) → length (others x ds) ≤ length ds
-others_few x [] = omega arith
-others_few x (d ∷ ds) = kept_few (not (same_variable x d)) d (others x ds) ds (others_few x ds)
 
 drop_one : (x : Term) (ds : List Term) → is_variable_of ds x ≡ true → length (others x ds) + 1 ≤ length ds
 drop_one x [] h = clash h

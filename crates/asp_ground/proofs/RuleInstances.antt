@@ -25,6 +25,7 @@ use Rattle.asp_defs.specs.Limits.{variable_count}
 use Rattle.asp_defs.proofs.Lists.{both, all_at, append_at, append_left, append_right, map_from, or_left}
 use Rattle.asp_check.specs.Condition.{is_single, is_single_atom, is_single_literal, is_single_element, is_single_head, has_intervals_in_facts}
 use Rattle.asp_check.proofs.Members.{flat_at, flat_from}
+use Rattle.asp_check.proofs.Safe.{same_self}
 use Rattle.asp_atoms.specs.declared.vocabularies.Vocabulary.{Vocabulary}
 use Rattle.asp_atoms.specs.Vocabularies.{unnumbered}
 use Rattle.asp_ground.proofs.Parts.{make_rule, disjunctive_written, element_written, all_instances, suc_is_not, more_is_not}
@@ -36,7 +37,7 @@ use Rattle.asp_ground.proofs.Products.{flat_map_map}
 use Rattle.asp_ground.proofs.Known.{Numbers, KnownTerm, KnownAtom, KnownLiteral, KnownSchema}
 use Rattle.asp_ground.proofs.Numbers.{const_at}
 use Rattle.asp_ground.proofs.Schemas.{schema_is}
-use Rattle.asp_ground.proofs.Occurrences.{itself_in, occurs, any_place, few_among, found_is}
+use Rattle.asp_ground.proofs.Occurrences.{occurs, any_place, few_among, found_is}
 use Rattle.asp_ground.proofs.FactInstances.{KnownArgument, KnownFact, fact_is}
 use Rattle.asp_defs.proofs.TextRefutations.{clash}
 
@@ -51,9 +52,9 @@ known_term : (v : Vocabulary) (ws : List Term) (t : Term) → Among v ws (term_c
 known_term v ws (Int x) among single = among.known (const.Int x) (inl refl)
 known_term v ws (Sym s) among single = among.known (const.Sym s) (inl refl)
 known_term v ws (Var w) among single =
-    any_place (same_variable (Var w)) (first_occurrences ws) (occurs ws (Var w) (itself_in (Var w) (Var w) (inl refl)) (among.within (Var w) (inl refl)))
+    any_place (same_variable (Var w)) (first_occurrences ws) (occurs ws (Var w) (same_self (Var w) (Var w) (inl refl)) (among.within (Var w) (inl refl)))
 known_term v ws (Anon k) among single =
-    any_place (same_variable (Anon k)) (first_occurrences ws) (occurs ws (Anon k) (itself_in (Anon k) (Anon k) (inl refl)) (among.within (Anon k) (inl refl)))
+    any_place (same_variable (Anon k)) (first_occurrences ws) (occurs ws (Anon k) (same_self (Anon k) (Anon k) (inl refl)) (among.within (Anon k) (inl refl)))
 known_term v ws (Range low high) among single = clash single
 
 known_atom : (v : Vocabulary) (ws : List Term) (a : Atom) → Among v ws (atom_constants a) (atom_variables a) → IsIn (atom_predicate a) (map unnumbered v.predicates) → is_single_atom a ≡ true → KnownAtom v (first_occurrences ws) a
@@ -190,7 +191,7 @@ no_unsafe (w ∷ ws) self h =
     absurd (find_first (is_variable_of (unbound [] (w ∷ ws) ++ [])) w ws (or_left (same_variable w w) (is_variable_of (unbound [] ws ++ []) w) (self w (inl refl))) h)
 
 written_self : (args : List Term) (w : Term) → IsIn w (flat_map term_variables args) → same_variable w w ≡ true
-written_self args w i = let found = flat_at term_variables args w i in itself_in found.0 w found.2
+written_self args w i = let found = flat_at term_variables args w i in same_self found.0 w found.2
 
 fact_closed : (v : Vocabulary) (a : Atom) → KnownRule v (Disj (a ∷ [])) [] → atom_variables a ≡ []
 fact_closed v a known =
@@ -230,8 +231,8 @@ literal_self : (l : Literal) (w : Term) → IsIn w (literal_variables l) → sam
 literal_self (Pos a) w i = atom_self a w i
 literal_self (Neg a) w i = atom_self a w i
 literal_self (Cmp x op y) w i = elim (append_at (term_variables x) (term_variables y) w i) [
-  | inl j ↦ itself_in x w j
-  | inr j ↦ itself_in y w j
+  | inl j ↦ same_self x w j
+  | inr j ↦ same_self y w j
 ]
 
 disjunctive_self : (heads : List Atom) (body : List Literal) (w : Term) → IsIn w (disjunctive_written heads body) → same_variable w w ≡ true

@@ -23,9 +23,10 @@ use Rattle.asp_defs.proofs.TextRefutations.{clash}
 use Rattle.asp_check.specs.Condition.{is_single, is_single_atom, is_single_literal}
 use Rattle.asp_check.proofs.Members.{flat_at, flat_from}
 use Rattle.asp_check.proofs.Steps.{get_is_in}
+use Rattle.asp_check.proofs.Safe.{same_self}
 use Rattle.asp_ground.proofs.Parts.{make_predicate}
 use Rattle.asp_ground.proofs.Products.{tuple_length, tuple_member, in_replicate}
-use Rattle.asp_ground.proofs.Occurrences.{itself_in, any_place}
+use Rattle.asp_ground.proofs.Occurrences.{any_place}
 use Rattle.asp_ground.proofs.BaseAtoms.{base_from, base_numbers, within_from}
 
 -- what is written in a part of a rule is known: its constants, its predicates and its variables
@@ -77,7 +78,7 @@ known_atom U Q vars a part single = record {
   predicate = part.predicates (atom_predicate a) (inl refl);
   terms = λ t i. record {
     constants = λ c j. part.constants c (flat_from term_constants a.args t c i j);
-    variables = λ w j. part.variables w (itself_in t w j) (flat_from term_variables a.args t w i j);
+    variables = λ w j. part.variables w (same_self t w j) (flat_from term_variables a.args t w i j);
     single = all_at is_single a.args t single i;
   };
 }

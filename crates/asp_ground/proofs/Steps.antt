@@ -7,6 +7,7 @@ use Rattle.asp_defs.specs.Lists.{numbers_from}
 use Rattle.asp_defs.specs.Bases.{product}
 use Rattle.asp_defs.proofs.Lists.{or_left, or_right}
 use Rattle.asp_atoms.proofs.Choosing.{flat_map_agrees}
+use Rattle.asp_atoms.proofs.Levels.{numbers_more}
 use Rattle.asp_ground.proofs.Products.{flat_map_map, flat_map_append, flat_map_flat_map}
 
 -- ---- places in a list under a function
@@ -76,14 +77,6 @@ fold_grows f g start now next xs i d h so_far step =
 
 abbrev pub pair : {A : Type 0} → ℕ → A → ℕ × A
 pair n x = (n, x)
-
--- one number more
-pub numbers_more : (k n : ℕ) → numbers_from k (n + 1) ≡ numbers_from k n ++ (k + n) ∷ []
-numbers_more k zero = let same : k ≡ k + zero = omega arith in ap (λ m. m ∷ []) same
-numbers_more k (suc n) =
-    let next : suc n + 1 ≡ suc (n + 1) = omega arith in
-    let last : suc k + n ≡ k + suc n = omega arith in
-    ap (numbers_from k) next ∙ ap (λ ns. k ∷ ns) (numbers_more (suc k) n ∙ ap (λ m. numbers_from (suc k) n ++ m ∷ []) last)
 
 pub mapped_numbers_more : {A : Type 0} (f : ℕ → A) (n : ℕ) → map f (numbers_from 0 (n + 1)) ≡ map f (numbers_from 0 n) ++ f n ∷ []
 mapped_numbers_more f n =

@@ -1,8 +1,8 @@
 -- The game of a program that passes all checks and keeps the limits is valid.
-use Rattle.std.proofs.Common.{ℕ, ◌≡◌, ◌+◌, ◌-◌, ◌≤◌, refl, sym, ◌∙◌, ap, true, not, Option, Some, None, List, [], ◌∷◌, length, arith}
-use Rattle.std.specs.Prelude.{IsTrue, nat_lt, is_none}
+use Rattle.std.proofs.Common.{ℕ, ◌≡◌, ◌+◌, ◌-◌, ◌≤◌, sym, ◌∙◌, ap, true, not, None, List, [], ◌∷◌, length, arith}
+use Rattle.std.specs.Prelude.{IsTrue, nat_lt}
 use Rattle.std.specs.List.{list_all}
-use Rattle.std.specs.Option.{option_or, option_map}
+use Rattle.std.specs.Option.{option_or}
 use Rattle.std.proofs.lemmas.List.{length-map}
 use Rattle.asp_defs.specs.declared.faults.Which.{Which}
 use Rattle.asp_defs.specs.declared.faults.Which.TheVariants as which
@@ -20,33 +20,25 @@ use Rattle.asp_defs.proofs.Lists.{all_at}
 use Rattle.asp_defs.proofs.TextRefutations.{clash}
 use Rattle.asp_check.specs.Condition.{IsCheckable, has_intervals_in_facts}
 use Rattle.asp_atoms.proofs.Assembling.{base_atoms_ascend}
-use Rattle.asp_atoms.proofs.Counting.{within_limit, first_none, second_none}
+use Rattle.asp_atoms.proofs.Counting.{within_limit, first_none, second_none, unmapped, no_one}
 use Rattle.asp_ground.proofs.BaseAtoms.{base_numbers, bases_ascend, bases_nested, bases_long, base_at, first_empty, last_long, last_below}
 use Rattle.asp_ground.proofs.LevelRules.{rules_long, written_rules, level_at, level_within, levels_formed, level_constraints, last_rules, none_headed}
 
 -- ---- what the checks and the limits say
 
-none_of : {A B : Type 0} (f : A → B) (o : Option A) → option_map f o ≡ None → o ≡ None
-none_of f None e = refl
-none_of f (Some x) e = clash (ap is_none e)
-
-is_none_so : {A : Type 0} (o : Option A) → is_none o ≡ true → o ≡ None
-is_none_so None e = refl
-is_none_so (Some x) e = clash e
-
 no_refusal : (p : Program) → IsTrue (is_checked p) → option_or (form_refusal p) (size_refusal p) ≡ None
 no_refusal p checked =
     second_none (safety_refusal p) (option_or (form_refusal p) (size_refusal p))
-    (is_none_so (option_or (safety_refusal p) (option_or (form_refusal p) (size_refusal p))) checked)
+    (no_one (option_or (safety_refusal p) (option_or (form_refusal p) (size_refusal p))) checked)
 
 few : (p : Program) → IsTrue (is_checked p) → length p.levels ≤ 16
 few p checked =
-    let found = none_of (λ (f : Which × ℕ). PastLimit f.0 f.1) (too_large_in p) (second_none (form_refusal p) (size_refusal p) (no_refusal p checked)) in
+    let found = unmapped (λ (f : Which × ℕ). PastLimit f.0 f.1) (too_large_in p) (second_none (form_refusal p) (size_refusal p) (no_refusal p checked)) in
     within_limit which.Levels (length p.levels)
     (first_none (past_limit which.Levels (length p.levels)) (option_or (past_limit which.Arguments (most_arguments p)) (option_or (past_limit which.Literals (most_literals p)) (past_limit which.Variables (most_variables p)))) found)
 
 no_headed : (p : Program) → IsTrue (is_checked p) → headed_in p ≡ None
-no_headed p checked = none_of HeadedRule (headed_in p) (first_none (form_refusal p) (size_refusal p) (no_refusal p checked))
+no_headed p checked = unmapped HeadedRule (headed_in p) (first_none (form_refusal p) (size_refusal p) (no_refusal p checked))
 
 few_atoms : (p : Program) → game_too_large p ≡ None → atom_total p ≤ 262144
 few_atoms p small =
