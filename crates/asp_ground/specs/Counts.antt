@@ -2,6 +2,7 @@
 -- are transparent.
 use Rattle.std.specs.Prelude.{ℕ, ◌+◌, ◌*◌, ◌^◌, ◌≡◌, nat_lt, if◌then◌else◌, List, [], ◌∷◌, length, get_or}
 use Rattle.std.specs.List.{flat_map, fold, sum_by}
+use Rattle.asp_defs.specs.declared.faults.Which.TheVariants as which
 use Rattle.asp_defs.specs.declared.ground.Const.{Const}
 use Rattle.asp_defs.specs.declared.syntax.Term.{Term}
 use Rattle.asp_defs.specs.declared.syntax.Term.TheVariants.{Int, Sym, Var, Anon, Range}
@@ -11,13 +12,14 @@ use Rattle.asp_defs.specs.declared.syntax.Head.{Head}
 use Rattle.asp_defs.specs.declared.syntax.Head.TheVariants.{Disj, Choice}
 use Rattle.asp_defs.specs.declared.syntax.Rule.{Rule}
 use Rattle.asp_defs.specs.Constants.{const_cmp, with_member, interval_length, rule_constants}
+use Rattle.asp_defs.specs.Limits.{limit}
 use Rattle.asp_atoms.specs.Ascending.{Ascends}
 use Rattle.asp_ground.specs.Variables.{disjunctive_variables, element_variables}
 use Rattle.asp_ground.specs.Compiled.{is_fact, no_atom}
 
--- constants in their order with one more, where there is room
+-- constants in their order with one more, where there is room: for one more than a program with bases has at most
 abbrev pub with_constant : List Const → Const → List Const
-with_constant found c = if nat_lt (length found) 4097 then with_member const_cmp c found else found
+with_constant found c = if nat_lt (length found) (limit which.Constants + 1) then with_member const_cmp c found else found
 
 -- constants with further ones
 pub record Gathers (old new constants : List Const) : Type 0 where
