@@ -85,7 +85,8 @@ fn rules_count(size: u64, rules: &[Rule]) -> u64
     count
 }
 
-/// How many instances a program has, before comparisons are looked at: at most 10^18 is answered. Takes no memory.
+/// How many instances a program has, before comparisons are looked at: at most 10^18 is answered. Takes no memory. The
+/// program's constants and atoms keep their limits, as `bases` or `atom_count` tells.
 ///
 /// No base is needed: the constants are gathered from the program, each by a search among those that are there, of which a
 /// program with bases has at most 4,096. An interval all of whose integers are there costs one search. Each other one is
