@@ -1,6 +1,6 @@
 -- Lists that are compared from the left, and the test that atoms ascend.
-use Rattle.std.proofs.Common.{ℕ, ◌≡◌, ◌+◌, ◌<◌, ◌≤◌, refl, sym, ◌∙◌, ap, true, List, [], ◌∷◌, length, get_or, drop, arith}
-use Rattle.std.specs.Ordering.{is_lt, ordering_then}
+use Rattle.std.proofs.Common.{ℕ, ◌≡◌, ◌<◌, ◌≤◌, refl, ◌∙◌, ap, true, List, [], ◌∷◌, length, drop, arith}
+use Rattle.std.specs.Ordering.{is_lt}
 use Rattle.std.specs.declared.cmp.Ordering.{Ordering}
 use Rattle.std.specs.declared.cmp.Ordering.TheVariants.{Less, Equal, Greater}
 use Rattle.std.specs.Cmp.Lexicographic.{slice_cmp}
@@ -13,33 +13,10 @@ use Rattle.asp_atoms.specs.Ascending.{Ascends}
 use Rattle.asp_atoms.proofs.Orders.{atom_lawful}
 use Rattle.asp_atoms.proofs.Ascending.{above_at, above_from}
 
-module _ {A : Type 0} (R : A → A → Ordering) (xs ys : List A) (k : ℕ) (x y : A) (o : Ordering) (first : k < length xs) (second : k < length ys) (left : x ≡ get_or xs k x) (right : y ≡ get_or ys k y) (is : o ≡ R x y) where
-  split : slice_cmp R (drop k xs) (drop k ys) ≡ ordering_then (R x y) (slice_cmp R (drop (k + 1) xs) (drop (k + 1) ys))
-  split =
-      let one : drop k xs ≡ x ∷ drop (k + 1) xs = drop_more xs k x first ∙ ap (λ z. z ∷ drop (k + 1) xs) (sym left) in
-      let two : drop k ys ≡ y ∷ drop (k + 1) ys = drop_more ys k y second ∙ ap (λ z. z ∷ drop (k + 1) ys) (sym right) in
-      ap (λ l. slice_cmp R l (drop k ys)) one ∙ ap (slice_cmp R (x ∷ drop (k + 1) xs)) two
-
-  pub compared_more : o ≡ Equal → slice_cmp R (drop k xs) (drop k ys) ≡ slice_cmp R (drop (k + 1) xs) (drop (k + 1) ys)
-  compared_more e = split ∙ ap (λ q. ordering_then q (slice_cmp R (drop (k + 1) xs) (drop (k + 1) ys))) (sym is ∙ e)
-
-  pub compared_less : o ≡ Less → slice_cmp R (drop k xs) (drop k ys) ≡ Less
-  compared_less e = split ∙ ap (λ q. ordering_then q (slice_cmp R (drop (k + 1) xs) (drop (k + 1) ys))) (sym is ∙ e)
-
-  pub compared_greater : o ≡ Greater → slice_cmp R (drop k xs) (drop k ys) ≡ Greater
-  compared_greater e = split ∙ ap (λ q. ordering_then q (slice_cmp R (drop (k + 1) xs) (drop (k + 1) ys))) (sym is ∙ e)
-
-pub compared_longer : {A : Type 0} (R : A → A → Ordering) (xs ys : List A) (k : ℕ) (d : A) → k < length xs → length ys ≤ k → slice_cmp R (drop k xs) (drop k ys) ≡ Greater
-compared_longer R xs ys k d h g =
-    ap (λ l. slice_cmp R l (drop k ys)) (drop_more xs k d h) ∙ ap (slice_cmp R (get_or xs k d ∷ drop (k + 1) xs)) (drop_all k ys g)
-
 pub compared_shorter : {A : Type 0} (R : A → A → Ordering) (xs ys : List A) (k : ℕ) → length xs ≤ k → k < length ys → slice_cmp R (drop k xs) (drop k ys) ≡ Less
 compared_shorter R xs [] k h g = absurd (omega arith)
 compared_shorter R xs (y ∷ ys) k h g =
     ap (λ l. slice_cmp R l (drop k (y ∷ ys))) (drop_all k xs h) ∙ ap (slice_cmp R []) (drop_more (y ∷ ys) k y g)
-
-pub compared_both : {A : Type 0} (R : A → A → Ordering) (xs ys : List A) (k : ℕ) → length xs ≤ k → length ys ≤ k → slice_cmp R (drop k xs) (drop k ys) ≡ Equal
-compared_both R xs ys k h g = ap (λ l. slice_cmp R l (drop k ys)) (drop_all k xs h) ∙ ap (slice_cmp R []) (drop_all k ys g)
 
 -- ---- the test that atoms ascend
 

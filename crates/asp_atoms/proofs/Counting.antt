@@ -1,5 +1,5 @@
 -- Counts that end at the greatest one shown, and the limits that they pass.
-use Rattle.std.proofs.Common.{ℕ, ◌≡◌, ◌+◌, ◌<◌, ◌≤◌, min, max, refl, sym, ◌∙◌, ap, subst, inl, inr, Bool, true, false, cond, List, [], ◌∷◌, map, length, length-append, arith, Option, Some, None, is_none, IsTrue}
+use Rattle.std.proofs.Common.{ℕ, ◌≡◌, ◌+◌, ◌<◌, ◌≤◌, min, max, refl, sym, ◌∙◌, ap, subst, inl, inr, Bool, true, cond, List, [], ◌∷◌, map, length, length-append, arith, Option, Some, None, is_none, IsTrue}
 use Rattle.std.specs.List.{flat_map, fold}
 use Rattle.std.specs.Option.{option_or, option_map}
 use Rattle.std.proofs.lemmas.Bool.{cases_lt, lt-ltb, le-ltb}
@@ -75,10 +75,6 @@ no_one (Some x) e = absurd (cc)
 pub unmapped : {A B : Type 0} (f : A → B) (a : Option A) → option_map f a ≡ None → a ≡ None
 unmapped f None e = refl
 unmapped f (Some x) e = absurd (cc)
-
-not_past : (which : Which) (count : ℕ) (b : Bool) → past which count b ≡ None → b ≡ false
-not_past which count true e = absurd (cc)
-not_past which count false e = refl
 
 pub within_limit : (which : Which) (count : ℕ) → past_limit which count ≡ None → count ≤ limit which
 within_limit which count e =

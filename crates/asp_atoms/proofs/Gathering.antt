@@ -35,9 +35,6 @@ use Rattle.asp_atoms.proofs.Choosing.{unnumbered_all}
 use Rattle.asp_defs.proofs.TextRefutations.{clash}
 use Rattle.asp_atoms.proofs.Assembling.{atoms_counted, program_ranks, program_predicates, members_are}
 
-abbrev now_all : List (Bor (List Rule)) → List (List Rule)
-now_all levels = map (λ (l : Bor (List Rule)). l.now) levels
-
 -- as many levels as the program has, and the constraint part
 pub as_many : (p : Program) (levels : List (Bor (List Rule))) → map (λ (l : Bor (List Rule)). l.now) levels ≡ level_rules p → length levels ≡ last_level p
 as_many p levels e =

@@ -140,12 +140,6 @@ max_one x y z h g = omega (arith, ints, clamps)
 max_below : (x y z : ℤ) → z <ℤ int_max x y → x ≤ℤ z → z <ℤ y
 max_below x y z h g = omega (arith, ints, clamps)
 
-true_lt : (x y : ℤ) → int_lt x y ≡ true → x <ℤ y
-true_lt x y e = grind (arith, ints)
-
-false_lt : (x y : ℤ) → int_lt x y ≡ false → y ≤ℤ x
-false_lt x y e = grind (arith, ints)
-
 pub lt_true : (x y : ℤ) → x <ℤ y → int_lt x y ≡ true
 lt_true x y h = grind (arith, ints)
 

@@ -1,5 +1,5 @@
 -- The steps by which the least variables are found.
-use Rattle.std.proofs.Common.{ℕ, ◌≡◌, ◌⊎◌, ◌+◌, ◌≤◌, ◌<◌, refl, sym, ◌∙◌, ap, subst, inl, inr, Bool, true, false, List, [], ◌∷◌, ◌++◌, length, arith, length-append}
+use Rattle.std.proofs.Common.{ℕ, ◌≡◌, ◌⊎◌, ◌+◌, ◌≤◌, refl, sym, ◌∙◌, ap, subst, inl, inr, Bool, true, false, List, [], ◌∷◌, ◌++◌, length, arith, length-append}
 use Rattle.std.specs.Prelude.{if◌then◌else◌}
 use Rattle.asp_defs.specs.declared.syntax.Term.{Term}
 use Rattle.asp_defs.specs.Lists.{IsIn}
@@ -203,9 +203,6 @@ spreading_more bound links u S T Q R sp f = record {
     | inr h ↦ h
   ];
 }
-
-pub spreading_fewer : (links : List (Term × Term)) (u : Term) (S T Q R : List Term) → Follows links links u S T Q R → length R + missing links T < length (Q ++ u ∷ []) + missing links S
-spreading_fewer links u S T Q R f = let less = f.fewer in let long = length-append Q (u ∷ []) in omega arith
 
 pub spreading_end : (bound : List Term) (links : List (Term × Term)) (S : List Term) → Spreading bound links S [] → IsLeast bound links S
 spreading_end bound links S sp = record {

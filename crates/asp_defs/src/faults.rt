@@ -161,6 +161,7 @@ pub enum Kind {
 /// An answer that stays open, since a budget was spent at a level.
 #[derive(Debug, Clone, Copy, PartialEq, Eq)]
 pub struct Unknown {
+    /// What was spent.
     pub kind: Kind,
     /// The level, from 1.
     pub level: u32,

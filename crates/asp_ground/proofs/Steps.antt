@@ -66,15 +66,6 @@ pub fold_append : {A B : Type 0} (f : B → A → B) (b : B) (xs ys : List A) �
 fold_append f b [] ys = refl
 fold_append f b (x ∷ xs) ys = fold_append f (f b x) xs ys
 
-pub fold_two : {A B : Type 0} (f : B → A → B) (start middle end : B) (xs ys : List A) → middle ≡ fold f start xs → end ≡ fold f middle ys → end ≡ fold f start (xs ++ ys)
-fold_two f start middle end xs ys first second =
-    second ∙ (ap (λ b. fold f b ys) first ∙ sym (fold_append f start xs ys))
-
-pub fold_grows : {A B C : Type 0} (f : B → C → B) (g : A → List C) (start now next : B) (xs : List A) (i : ℕ) (d : A) → i < length xs → now ≡ fold f start (flat_map g (take i xs)) → next ≡ fold f now (g (get_or xs i d)) → next ≡ fold f start (flat_map g (take (i + 1) xs))
-fold_grows f g start now next xs i d h so_far step =
-    fold_two f start now next (flat_map g (take i xs)) (g (get_or xs i d)) so_far step
-    ∙ ap (fold f start) (sym (ap (flat_map g) (take_more xs i d h) ∙ (flat_map_append g (take i xs) (get_or xs i d ∷ []) ∙ ap (λ ys. flat_map g (take i xs) ++ ys) (append-nil (g (get_or xs i d))))))
-
 abbrev pub pair : {A : Type 0} → ℕ → A → ℕ × A
 pair n x = (n, x)
 
@@ -123,7 +114,3 @@ odometer {A} f front first rest =
     (λ x i. flat_map_agrees (λ tuple. f ((front ++ x ∷ []) ++ tuple)) (λ tuple. f (front ++ x ∷ tuple)) (product rest) (λ tuple j. ap f (append_assoc front (x ∷ []) tuple))
     ∙ sym (flat_map_map (λ tuple. f (front ++ tuple)) (λ tuple. x ∷ tuple) (product rest)))
     ∙ sym (flat_map_flat_map (λ tuple. f (front ++ tuple)) (λ x. map (λ tuple. x ∷ tuple) (product rest)) first)
-
--- where nothing is left to run there is one way
-pub odometer_end : {A B : Type 0} (f : List A → List B) (front : List A) → flat_map (λ tuple. f (front ++ tuple)) (product []) ≡ f front
-odometer_end f front = append-nil (f (front ++ [])) ∙ ap f (append-nil front)
