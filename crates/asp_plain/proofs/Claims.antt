@@ -9,8 +9,8 @@ use Rattle.asp_defs.specs.declared.syntax.Quant.{Quant}
 use Rattle.asp_defs.specs.declared.syntax.Quant.TheVariants.{Exists, Forall}
 use Rattle.asp_defs.specs.Interpretations.{subsets}
 use Rattle.asp_plain.specs.declared.masks.Level.{Level}
-use Rattle.asp_plain.specs.Masks.{candidates, is_answer}
-use Rattle.asp_plain.specs.Levels.{is_claimed, first_own, settling}
+use Rattle.asp_plain.specs.Masks.{candidates}
+use Rattle.asp_plain.specs.Levels.{has_answer, is_claimed, first_own, settling}
 use Rattle.asp_plain.proofs.Standing.{map-map}
 
 -- the candidates without the first bit, and those with it
@@ -29,26 +29,26 @@ and_open true q h = refl
 and_open false q h = absurd (h refl)
 
 -- where a claim isn't settled by some sets, further ones decide it
-pub unsettled : (quants : List Quant) (level : Level) (levels : List Level) (outer : ℕ) (sets more : List ℕ)
-    → (is_claimed quants (level ∷ levels) outer sets ≡ settling quants → ⊥)
-    → is_claimed quants (level ∷ levels) outer (sets ++ more) ≡ is_claimed quants (level ∷ levels) outer more
-unsettled [] level levels outer sets more h =
-    list_any-append (is_answer level.rules outer) sets more
-    ∙ or_open (list_any (is_answer level.rules outer) sets) (list_any (is_answer level.rules outer) more) h
-unsettled (Exists ∷ quants) level levels outer sets more h =
-    list_any-append (λ set. is_answer level.rules outer set && is_claimed quants levels set (candidates set (first_own levels))) sets more
-    ∙ or_open (is_claimed (Exists ∷ quants) (level ∷ levels) outer sets) (is_claimed (Exists ∷ quants) (level ∷ levels) outer more) h
-unsettled (Forall ∷ quants) level levels outer sets more h =
-    list_all-append (λ set. not (is_answer level.rules outer set) || is_claimed quants levels set (candidates set (first_own levels))) sets more
-    ∙ and_open (is_claimed (Forall ∷ quants) (level ∷ levels) outer sets) (is_claimed (Forall ∷ quants) (level ∷ levels) outer more) h
+pub unsettled : (quants : List Quant) (level : Level) (levels : List Level) (sets more : List ℕ)
+    → (is_claimed quants (level ∷ levels) sets ≡ settling quants → ⊥)
+    → is_claimed quants (level ∷ levels) (sets ++ more) ≡ is_claimed quants (level ∷ levels) more
+unsettled [] level levels sets more h =
+    list_any-append (has_answer level) sets more
+    ∙ or_open (list_any (has_answer level) sets) (list_any (has_answer level) more) h
+unsettled (Exists ∷ quants) level levels sets more h =
+    list_any-append (λ set. has_answer level set && is_claimed quants levels (candidates set (first_own levels))) sets more
+    ∙ or_open (is_claimed (Exists ∷ quants) (level ∷ levels) sets) (is_claimed (Exists ∷ quants) (level ∷ levels) more) h
+unsettled (Forall ∷ quants) level levels sets more h =
+    list_all-append (λ set. not (has_answer level set) || is_claimed quants levels (candidates set (first_own levels))) sets more
+    ∙ and_open (is_claimed (Forall ∷ quants) (level ∷ levels) sets) (is_claimed (Forall ∷ quants) (level ∷ levels) more) h
 
-pub unsettled_first : (quants : List Quant) (level : Level) (levels : List Level) (outer set b : ℕ) (bits : List ℕ)
-    → (is_claimed quants (level ∷ levels) outer (candidates set bits) ≡ settling quants → ⊥)
-    → is_claimed quants (level ∷ levels) outer (candidates set (b ∷ bits))
-    ≡ is_claimed quants (level ∷ levels) outer (candidates (bit_or set b) bits)
-unsettled_first quants level levels outer set b bits h =
-    ap (is_claimed quants (level ∷ levels) outer) (candidates-cons set b bits)
-    ∙ unsettled quants level levels outer (candidates set bits) (candidates (bit_or set b) bits) h
+pub unsettled_first : (quants : List Quant) (level : Level) (levels : List Level) (set b : ℕ) (bits : List ℕ)
+    → (is_claimed quants (level ∷ levels) (candidates set bits) ≡ settling quants → ⊥)
+    → is_claimed quants (level ∷ levels) (candidates set (b ∷ bits))
+    ≡ is_claimed quants (level ∷ levels) (candidates (bit_or set b) bits)
+unsettled_first quants level levels set b bits h =
+    ap (is_claimed quants (level ∷ levels)) (candidates-cons set b bits)
+    ∙ unsettled quants level levels (candidates set bits) (candidates (bit_or set b) bits) h
 
 -- the sets that pass a test, among the candidates without the first bit and those with it
 pub filter-candidates : (p : ℕ → Bool) (set b : ℕ) (bits : List ℕ)
@@ -57,12 +57,12 @@ filter-candidates p set b bits =
     ap (filter p) (candidates-cons set b bits) ∙ filter-append p (candidates set bits) (candidates (bit_or set b) bits)
 
 -- the same at lists that are known to begin so
-pub unsettled_at : (quants : List Quant) (levels : List Level) (level : Level) (inner : List Level) (outer set b : ℕ)
+pub unsettled_at : (quants : List Quant) (levels : List Level) (level : Level) (inner : List Level) (set b : ℕ)
     (rest bits : List ℕ) → levels ≡ level ∷ inner → rest ≡ b ∷ bits
-    → (is_claimed quants levels outer (candidates set bits) ≡ settling quants → ⊥)
-    → is_claimed quants levels outer (candidates set rest) ≡ is_claimed quants levels outer (candidates (bit_or set b) bits)
-unsettled_at quants levels level inner outer set b rest bits at_levels at_rest h =
-    ap (λ r. is_claimed quants levels outer (candidates set r)) at_rest
-    ∙ subst (λ ls. (is_claimed quants ls outer (candidates set bits) ≡ settling quants → ⊥)
-    → is_claimed quants ls outer (candidates set (b ∷ bits)) ≡ is_claimed quants ls outer (candidates (bit_or set b) bits))
-    (sym at_levels) (unsettled_first quants level inner outer set b bits) h
+    → (is_claimed quants levels (candidates set bits) ≡ settling quants → ⊥)
+    → is_claimed quants levels (candidates set rest) ≡ is_claimed quants levels (candidates (bit_or set b) bits)
+unsettled_at quants levels level inner set b rest bits at_levels at_rest h =
+    ap (λ r. is_claimed quants levels (candidates set r)) at_rest
+    ∙ subst (λ ls. (is_claimed quants ls (candidates set bits) ≡ settling quants → ⊥)
+    → is_claimed quants ls (candidates set (b ∷ bits)) ≡ is_claimed quants ls (candidates (bit_or set b) bits))
+    (sym at_levels) (unsettled_first quants level inner set b bits) h

@@ -1,5 +1,5 @@
 -- The quantified answer sets, by masks and by lists.
-use Rattle.std.proofs.Common.{◌≡◌, ◌+◌, ◌<◌, ◌≤◌, ◌^◌, ℕ, suc, Bool, true, false, not, ◌&&◌, cond, eqb, List, [], ◌∷◌, ◌++◌, length, get_or, map, drop, refl, sym, ap, ◌∙◌, inl, inr, arith}
+use Rattle.std.proofs.Common.{◌≡◌, ◌+◌, ◌<◌, ◌≤◌, ◌^◌, ℕ, suc, Bool, true, false, not, ◌&&◌, cond, eqb, List, [], ◌∷◌, ◌++◌, length, get_or, map, drop, refl, sym, ap, ◌∙◌, subst, inl, inr, arith}
 use Rattle.std.specs.Prelude.{All}
 use Rattle.std.specs.List.{list_all, filter}
 use Rattle.std.specs.Int.{bit_at}
@@ -17,7 +17,7 @@ use Rattle.asp_defs.specs.Interpretations.{holds, subsets}
 use Rattle.asp_defs.specs.AnswerSets.{is_answer_set, answer_sets}
 use Rattle.asp_defs.specs.Games.{base, rules_of, ascends, IsValid}
 use Rattle.asp_defs.specs.Values.{fix, moves, value_from, value, quantified_answer_sets}
-use Rattle.asp_defs.proofs.Lists.{filter_at}
+use Rattle.asp_defs.proofs.Lists.{filter_at, map_from}
 use Rattle.asp_defs.proofs.Subsets.{holds_at, subset-holds, ascends-tail, ascends-member}
 use Rattle.asp_plain.specs.declared.masks.Level.{Level}
 use Rattle.asp_plain.specs.Masks.{mask_of, own_bits, candidates}
@@ -26,6 +26,7 @@ use Rattle.asp_plain.specs.Sets.{values_of}
 use Rattle.asp_plain.proofs.Atoms.{bit, same_test, bit-mask_of}
 use Rattle.asp_plain.proofs.Bounds.{atom-below}
 use Rattle.asp_plain.proofs.Coherence.{HasBases-valid, value-same, stands-nothing}
+use Rattle.asp_plain.proofs.Known.{told}
 use Rattle.asp_plain.proofs.Minimal.{answer-same}
 use Rattle.asp_plain.proofs.Moves.{ascends-cons, subset-ascends}
 use Rattle.asp_plain.proofs.Standing.{map-map, Stands, stands-mask_of, candidates-atoms}
@@ -162,7 +163,10 @@ module _ (g : Game) (quants : List Quant) (level : Level) (levels : List Level) 
       let bases = HasBases-valid g valid in
       let stands : Stands B J (mask_of J) = stands-mask_of B J i in
       ap (λ t. t && masked_value quants levels (mask_of J))
-      (answer-same (get_or g.rules 0 []) level.rules masked.0.rules (base g 0) B [] J 0 (mask_of J)
+      (told (get_or g.rules 0 []) level (base g 0) B [] 0 masked.0 (stands-nothing (base g 0) valid.first_base)
+      (λ a. bases.nested 0 a (omega arith)) (mask_of J)
+      (subst (IsIn (mask_of J)) (sym first-candidates) (map_from mask_of (subsets B) J i))
+      ∙ answer-same (get_or g.rules 0 []) (base g 0) B [] J 0 (mask_of J)
       (stands-nothing (base g 0) valid.first_base) stands
       (subset-ascends B J (bases.ascending 1 (omega arith)) i)
       (λ a h. absurd (both_ways (bit 0 a) (ap (λ t. eqb t 1) (bit_at-zero a)) h))

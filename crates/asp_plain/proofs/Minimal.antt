@@ -15,12 +15,11 @@ use Rattle.asp_defs.specs.Games.{ascends}
 use Rattle.asp_defs.proofs.Lists.{all_at, all_from, any_at, any_from, filter_at, filter_from}
 use Rattle.asp_defs.proofs.Subsets.{holds_at, holds_from, subset-holds, subset_full, same_at, same_from}
 use Rattle.asp_plain.specs.declared.masks.MaskedRule.{MaskedRule}
-use Rattle.asp_plain.specs.Masks.{masked, mask_of, HaveSameMembers, satisfies_part, is_model_of_reduct, is_model_between, has_smaller_model, is_answer}
+use Rattle.asp_plain.specs.Masks.{masked, mask_of, is_model_of_reduct, is_model_between, has_smaller_model, is_answer}
 use Rattle.asp_plain.proofs.Atoms.{bit, same_test, same_masks, all_held, all_to, covers, covers_back}
 use Rattle.asp_plain.proofs.Beside.{Within}
 use Rattle.asp_plain.proofs.Fixing.{is_fixed, false_atoms, model-fixed}
 use Rattle.asp_plain.proofs.Models.{models-same}
-use Rattle.asp_plain.proofs.Repeated.{all-members}
 use Rattle.asp_plain.proofs.Standing.{Stands, stands-filter, stands-mask_of}
 
 -- the numbers below a count
@@ -45,15 +44,16 @@ and_with_true : (p q : Bool) → q ≡ true → p ≡ (p && q)
 and_with_true true q h = sym h
 and_with_true false q h = refl
 
--- a level's rules and its masks, an outer move M of the lower base, and a set J that has exactly M of it
-module _ (G : List GroundRule) (rules : List MaskedRule) (members : HaveSameMembers rules (map masked G))
-    (lower base M J : List ℕ) (m s : ℕ) (outer : Stands lower M m) (set : Stands base J s)
+-- a level's rules, an outer move M of the lower base, and a set J that has exactly M of it
+module _ (G : List GroundRule) (lower base M J : List ℕ) (m s : ℕ) (outer : Stands lower M m) (set : Stands base J s)
     (ascending : ascends J ≡ true) (kept : Within m s) (fixed : is_fixed lower M J ≡ true) where
+  abbrev rules : List MaskedRule
+  rules = map masked G
+
   -- a mask is a model of the reduct where its list is
   models : (K : List ℕ) (k : ℕ) → ((a : ℕ) → holds K a ≡ bit k a)
       → is_model_of_reduct rules s k ≡ is_model K (reduct G J)
-  models K k marks =
-      all-members (λ r. satisfies_part r s k) rules (map masked G) members ∙ models-same G J K s k set.marks marks
+  models K k marks = models-same G J K s k set.marks marks
 
   -- a smaller model of the rules with the outer move fixed gives a part
   found : (K : List ℕ) → IsIn K (proper_subsets J) → is_model K (reduct (G ++ fix lower M) J) ≡ true

@@ -14,11 +14,12 @@ use Rattle.asp_defs.proofs.Lists.{all_at, all_from, any_at, any_from, filter_at,
 use Rattle.asp_defs.proofs.Subsets.{subset-holds, subset-member, subset_at, filter-subset, ascends-tail, ascends-member}
 use Rattle.asp_defs.proofs.AnswerSetLaws.{answer_set-model}
 use Rattle.asp_plain.specs.declared.masks.Level.{Level}
-use Rattle.asp_plain.specs.Masks.{with_atom, mask_of, candidates, is_answer}
-use Rattle.asp_plain.specs.Levels.{IsMasked}
+use Rattle.asp_plain.specs.Masks.{with_atom, mask_of, candidates}
+use Rattle.asp_plain.specs.Levels.{IsMasked, has_answer}
 use Rattle.asp_plain.proofs.Atoms.{bit, same_test, same_masks, bit-fold, all_held, all_to}
 use Rattle.asp_plain.proofs.Beside.{Within}
 use Rattle.asp_plain.proofs.Fixing.{is_fixed, false_atoms, model-fixed}
+use Rattle.asp_plain.proofs.Known.{told}
 use Rattle.asp_plain.proofs.Minimal.{answer-same}
 use Rattle.asp_plain.proofs.Standing.{Stands, holds-filter, stands-filter, stands-mask_of, stands-within, candidates-atoms}
 
@@ -67,9 +68,9 @@ module _ (G : List GroundRule) (level : Level) (lower base M : List ℕ) (m : �
   candidates-own : candidates m level.own ≡ map (fold with_atom m) (subsets own)
   candidates-own = ap (candidates m) masked.own ∙ candidates-atoms m own
 
-  -- an answer set's mask is a candidate, and an answer set by masks
+  -- an answer set's mask is a candidate, and the table has it
   pub move_to : (J : List ℕ) → IsIn J (answer_sets (G ++ fix lower M) base)
-      → IsIn (mask_of J) (candidates m level.own) × (is_answer level.rules m (mask_of J) ≡ true) × Stands base J (mask_of J)
+      → IsIn (mask_of J) (candidates m level.own) × (has_answer level (mask_of J) ≡ true) × Stands base J (mask_of J)
   move_to J i =
       let at = filter_at (is_answer_set (G ++ fix lower M)) (subsets base) J i in
       let stands : Stands base J (mask_of J) = stands-mask_of base J at.0 in
@@ -94,17 +95,20 @@ module _ (G : List GroundRule) (level : Level) (lower base M : List ℕ) (m : �
             absurd (both_ways (holds J a) (not-true (holds J a) (all_to (λ b. not (holds J b)) (false_atoms lower M) parts.1 a
             (holds-filter (λ b. not (holds M b)) lower a ∙ and_from (holds lower a) (not (holds M a)) l (not_from_false (holds M a) lacks)))) h)
       ])
-      ∙ stands.marks a))) in (
-        subst (IsIn (mask_of J)) (sym candidates-own)
-            (subst (λ k. IsIn k (map (fold with_atom m) (subsets own))) joined
-            (map_from (fold with_atom m) (subsets own) K (filter-subset (holds J) own))),
-        answer-same G level.rules masked.rules lower base M J m (mask_of J) outer stands
-            (subset-ascends base J ascending stands.inside) kept fixed ∙ at.1,
+      ∙ stands.marks a))) in
+      let member : IsIn (mask_of J) (candidates m level.own) =
+      subst (IsIn (mask_of J)) (sym candidates-own)
+      (subst (λ k. IsIn k (map (fold with_atom m) (subsets own))) joined
+      (map_from (fold with_atom m) (subsets own) K (filter-subset (holds J) own))) in (
+        member,
+        told G level lower base M m masked outer nested (mask_of J) member
+            ∙ answer-same G lower base M J m (mask_of J) outer stands (subset-ascends base J ascending stands.inside) kept fixed
+            ∙ at.1,
         stands,
       )
 
-  -- a candidate that is an answer set by masks stands for an answer set
-  pub move_from : (s : ℕ) → IsIn s (candidates m level.own) → is_answer level.rules m s ≡ true
+  -- a candidate that the table has stands for an answer set
+  pub move_from : (s : ℕ) → IsIn s (candidates m level.own) → has_answer level s ≡ true
       → (J : List ℕ) × IsIn J (answer_sets (G ++ fix lower M) base) × Stands base J s
   move_from s i answer =
       let w = map_at (fold with_atom m) (subsets own) s (subst (IsIn s) candidates-own i) in
@@ -133,62 +137,62 @@ module _ (G : List GroundRule) (level : Level) (lower base M : List ℕ) (m : �
       ])))) in (
         J,
         filter_from (is_answer_set (G ++ fix lower M)) (subsets base) J stands.inside
-            (sym (answer-same G level.rules masked.rules lower base M J m s outer stands
-            (subset-ascends base J ascending stands.inside) kept fixed) ∙ answer),
+            (sym (answer-same G lower base M J m s outer stands (subset-ascends base J ascending stands.inside) kept fixed)
+            ∙ (sym (told G level lower base M m masked outer nested s i) ∙ answer)),
         stands,
       )
 
-  -- some candidate is an answer set where there is a move
-  pub some_move : list_any (is_answer level.rules m) (candidates m level.own)
+  -- the table has some candidate where there is a move
+  pub some_move : list_any (has_answer level) (candidates m level.own)
       ≡ not (is_empty (answer_sets (G ++ fix lower M) base))
   some_move =
-      same_test (list_any (is_answer level.rules m) (candidates m level.own))
+      same_test (list_any (has_answer level) (candidates m level.own))
       (not (is_empty (answer_sets (G ++ fix lower M) base)))
       (λ h.
-      let w = any_at (is_answer level.rules m) (candidates m level.own) h in
+      let w = any_at (has_answer level) (candidates m level.own) h in
       let move = move_from w.0 w.1 w.2 in
       some_member move.0 (answer_sets (G ++ fix lower M) base) move.1)
       (λ h.
       let w = first_member (answer_sets (G ++ fix lower M) base) h in
       let move = move_to w.0 w.1 in
-      any_from (is_answer level.rules m) (candidates m level.own) (mask_of w.0) move.0 move.1)
+      any_from (has_answer level) (candidates m level.own) (mask_of w.0) move.0 move.1)
 
   -- a test of masks and a test of the sets that they stand for
   module _ (V : ℕ → Bool) (v : List ℕ → Bool) (same_value : (J : List ℕ) (s : ℕ) → Stands base J s → V s ≡ v J) where
-    pub any_move : list_any (λ s. is_answer level.rules m s && V s) (candidates m level.own)
+    pub any_move : list_any (λ s. has_answer level s && V s) (candidates m level.own)
         ≡ list_any v (answer_sets (G ++ fix lower M) base)
     any_move =
-        same_test (list_any (λ s. is_answer level.rules m s && V s) (candidates m level.own))
+        same_test (list_any (λ s. has_answer level s && V s) (candidates m level.own))
         (list_any v (answer_sets (G ++ fix lower M) base))
         (λ h.
-        let w = any_at (λ s. is_answer level.rules m s && V s) (candidates m level.own) h in
-        let parts = and_parts (is_answer level.rules m w.0) (V w.0) w.2 in
+        let w = any_at (λ s. has_answer level s && V s) (candidates m level.own) h in
+        let parts = and_parts (has_answer level w.0) (V w.0) w.2 in
         let move = move_from w.0 w.1 parts.0 in
         any_from v (answer_sets (G ++ fix lower M) base) move.0 move.1 (sym (same_value move.0 w.0 move.2) ∙ parts.1))
         (λ h.
         let w = any_at v (answer_sets (G ++ fix lower M) base) h in
         let move = move_to w.0 w.1 in
-        any_from (λ s. is_answer level.rules m s && V s) (candidates m level.own) (mask_of w.0) move.0
-        (and_from (is_answer level.rules m (mask_of w.0)) (V (mask_of w.0)) move.1
+        any_from (λ s. has_answer level s && V s) (candidates m level.own) (mask_of w.0) move.0
+        (and_from (has_answer level (mask_of w.0)) (V (mask_of w.0)) move.1
         (same_value w.0 (mask_of w.0) move.2 ∙ w.2)))
 
-    pub all_moves : list_all (λ s. not (is_answer level.rules m s) || V s) (candidates m level.own)
+    pub all_moves : list_all (λ s. not (has_answer level s) || V s) (candidates m level.own)
         ≡ list_all v (answer_sets (G ++ fix lower M) base)
     all_moves =
-        same_test (list_all (λ s. not (is_answer level.rules m s) || V s) (candidates m level.own))
+        same_test (list_all (λ s. not (has_answer level s) || V s) (candidates m level.own))
         (list_all v (answer_sets (G ++ fix lower M) base))
         (λ h. all_from v (answer_sets (G ++ fix lower M) base) (λ J i.
         let move = move_to J i in
-        elim (or_cases (not (is_answer level.rules m (mask_of J))) (V (mask_of J))
-        (all_at (λ s. not (is_answer level.rules m s) || V s) (candidates m level.own) (mask_of J) h move.0)) [
-          | inl none ↦ absurd (both_ways (is_answer level.rules m (mask_of J)) (not-true (is_answer level.rules m (mask_of J)) none) move.1)
+        elim (or_cases (not (has_answer level (mask_of J))) (V (mask_of J))
+        (all_at (λ s. not (has_answer level s) || V s) (candidates m level.own) (mask_of J) h move.0)) [
+          | inl none ↦ absurd (both_ways (has_answer level (mask_of J)) (not-true (has_answer level (mask_of J)) none) move.1)
           | inr value ↦ sym (same_value J (mask_of J) move.2) ∙ value
         ]))
-        (λ h. all_from (λ s. not (is_answer level.rules m s) || V s) (candidates m level.own) (λ s i.
-        elim (cases_Bool (is_answer level.rules m s)) [
+        (λ h. all_from (λ s. not (has_answer level s) || V s) (candidates m level.own) (λ s i.
+        elim (cases_Bool (has_answer level s)) [
           | inl answer ↦
               let move = move_from s i answer in
-              or_right (not (is_answer level.rules m s)) (V s)
+              or_right (not (has_answer level s)) (V s)
               (same_value move.0 s move.2 ∙ all_at v (answer_sets (G ++ fix lower M) base) move.0 h move.1)
-          | inr none ↦ or_left (not (is_answer level.rules m s)) (V s) (not_from_false (is_answer level.rules m s) none)
+          | inr none ↦ or_left (not (has_answer level s)) (V s) (not_from_false (has_answer level s) none)
         ]))

@@ -46,14 +46,6 @@ satisfies_part rule set small =
 abbrev pub is_model_of_reduct : List MaskedRule → ℕ → ℕ → Bool
 is_model_of_reduct rules set small = list_all (λ rule. satisfies_part rule set small) rules
 
--- whether each set that has `least` and lies within `most` satisfies what the reduct by `set` has of a rule, whatever else
--- it has
-abbrev pub is_settled : MaskedRule → ℕ → ℕ → ℕ → Bool
-is_settled rule set least most =
-    not (bit_and rule.negative set == 0)
-    || ((rule.choice && (bit_and rule.head set == 0))
-    || (not (bit_and rule.positive most == rule.positive) || not (bit_and rule.head least == 0)))
-
 -- whether a set other than `set` has `least`, lies within `most` and is a model of the reduct by `set`
 abbrev pub is_other_model : List MaskedRule → ℕ → ℕ → ℕ → ℕ → Bool
 is_other_model rules set least most small =

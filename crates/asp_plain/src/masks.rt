@@ -6,6 +6,7 @@ ghost use Rattle.asp_plain.specs.Levels.{IsMasked, AreMasked};
 ghost use Rattle.asp_plain.specs.Masks.{most_masked, mask_of, masked, own_bits as own_bits_of, HaveSameMembers};
 ghost use Rattle.asp_reduct.specs.Bounds.{are_below, is_rule_below};
 
+use crate::answers::answers;
 use asp_defs::{Game, GroundRule, List, NoMemory};
 use std::alloc::Global;
 
@@ -28,8 +29,9 @@ pub struct MaskedRule {
 pub struct Level {
     /// The bits of the atoms that the lower base lacks, in the order of the atoms.
     pub own: List<u32>,
-    /// The rules, each once.
-    pub rules: List<MaskedRule>,
+    /// Whether each set over the base, at its mask, is an answer set of the rules with the atoms of the lower base that it
+    /// has fixed.
+    pub answers: List<bool>,
 }
 
 /// The atom's bit.
@@ -66,7 +68,7 @@ fn masked_rule(rule: &GroundRule) -> MaskedRule
 }
 
 /// Drops each rule that stands there twice.
-fn drop_repeated(rules: &mut Vec<MaskedRule>)
+pub fn drop_repeated(rules: &mut Vec<MaskedRule>)
     ensures { HaveSameMembers rules.new.items rules.old.items }
 {
     rules.sort_unstable();
@@ -74,16 +76,16 @@ fn drop_repeated(rules: &mut Vec<MaskedRule>)
 }
 
 /// The rules as masks, each once.
-fn masked_rules(alloc: Global, rules: &[GroundRule]) -> Result<List<MaskedRule>, NoMemory>
+fn masked_rules(alloc: Global, rules: &[GroundRule]) -> Result<Vec<MaskedRule>, NoMemory>
     requires { IsTrue (list_all (is_rule_below most_masked) rules.now) }
-    ensures { IfOk result (λ all. HaveSameMembers all (map masked rules.now)) }
+    ensures { IfOk result (λ all. HaveSameMembers all.items (map masked rules.now)) }
 {
     let mut all = Vec::new(alloc);
     for rule in rules {
         all.push(masked_rule(rule))?;
     }
     drop_repeated(&mut all);
-    Ok(List::from_vec(all))
+    Ok(all)
 }
 
 /// The bits of the atoms of a base that the lower base lacks.
@@ -115,9 +117,12 @@ fn masked_level(
     requires rules { IsTrue (list_all (is_rule_below most_masked) rules.now) }
     ensures { IfOk result (IsMasked lower.now base.now rules.now) }
 {
+    let own = own_bits(alloc, lower, base)?;
+    let rules = masked_rules(alloc, rules)?;
+    let answers = answers(alloc, rules.as_slice(), mask(lower), mask(base))?;
     Ok(Level {
-        own: own_bits(alloc, lower, base)?,
-        rules: masked_rules(alloc, rules)?,
+        own,
+        answers: List::from_vec(answers),
     })
 }
 

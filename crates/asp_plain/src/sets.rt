@@ -6,7 +6,7 @@ ghost use Rattle.asp_plain.specs.Masks.{candidates};
 ghost use Rattle.asp_plain.specs.Sets.{values_of};
 
 use crate::masks::Level;
-use crate::value::{is_answer_set, value};
+use crate::value::{has_answer, value};
 use asp_bits::Bits;
 use asp_defs::{List, NoMemory, Quant};
 use std::alloc::Global;
@@ -18,7 +18,7 @@ fn is_won(quants: &[Quant], levels: &[Level], set: u32) -> bool
     let Some((level, inner)) = levels.split_first() else {
         return false;
     };
-    is_answer_set(level.rules.as_slice(), 0, set) && value(quants, inner, set)
+    has_answer(level, set) && value(quants, inner, set)
 }
 
 /// Adds the sets that are won among those that have `set` and some of the bits `rest` beside it, in the order of

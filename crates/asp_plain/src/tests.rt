@@ -237,6 +237,13 @@ fn decides_and_lists(rt: HostRuntime) -> Result<(), Fail> {
             "{}{a}",
         ),
         ("E{a}./E{a}.b:-a./C:-~b.", "/a/ab/ab", true, "{a}"),
+        // More than twenty rules, many of which become equal once an atom is decided.
+        (
+            "E{a}.{b}.c:-a.d:-a.e:-a.f:-a.g:-a.h:-a.:-b,c,d.:-b,c,e.:-b,c,f.:-b,c,g.:-b,c,h.:-b,d,e.:-b,d,f.:-b,d,g.:-b,d,h.:-b,e,f.:-b,e,g.:-b,e,h.:-b,f,g.:-b,f,h.:-b,g,h./C:-~a,~b.",
+            "/abcdefgh/abcdefgh",
+            true,
+            "{b}{acdefgh}",
+        ),
         // Smaller sets that break one rule after another: only the empty one is a model, or none is.
         (
             "E{a}:-h.{b}:-h.{c}:-h.{d}:-h.{e}:-h.{f}:-h.{g}:-h.h:-a.h:-b.h:-c.h:-d.h:-e.h:-f.h:-g.:-~h./C",

@@ -8,7 +8,7 @@ use Rattle.asp_plain.proofs.value.+claims.Goals as goal
 pub returns-in-Some-split_first : goal.returns-in-Some-split_first
 returns-in-Some-split_first t c =
     c.claims.ensures
-    ∙ sym (unsettled_at c.args.quants.now c.args.levels.now c.in-Some.level.now c.in-Some.inner.now c.args.outer c.args.set
+    ∙ sym (unsettled_at c.args.quants.now c.args.levels.now c.in-Some.level.now c.in-Some.inner.now c.args.set
     c.in-Some-split_first.bit.now c.args.rest.now c.in-Some-split_first.others.now c.in-Some.ensures.cases.0
     c.in-Some-split_first.ensures.cases.0
     (λ e.

@@ -2,7 +2,7 @@ use Rattle.std.proofs.Common.{w32, ◌≡◌, ◌<◌, ◌^◌, ◌*◌, ◌%◌
 use Rattle.std.specs.Int.{trailing_zeros}
 use Rattle.std.proofs.Math.Pow.{pow-lt}
 use Rattle.std.proofs.lemmas.Nat.Bits.{bit_at-trailing_zeros}
-use Rattle.asp_plain.proofs.value.first_bit.Goals as goal
+use Rattle.asp_plain.proofs.answers.first_bit.Goals as goal
 
 pub returns : goal.returns
 returns c =

@@ -1,0 +1,83 @@
+// What is left of rules where some atoms are decided: for the sets that have `set` and beside it only atoms of `rest`, and for
+// those of their parts that have `small` and beside it only atoms of `rest`.
+ghost use Rattle.std.specs.Prelude.{◌≡◌, true, [], None, Contains, IfOk, IfSome};
+ghost use Rattle.std.specs.List.{list_any};
+ghost use Rattle.asp_plain.specs.Cubes.{rule_atoms, is_bare, can_matter as can_matter_by, narrowed as narrowed_by, left_of, IsWhole};
+
+use crate::masks::{MaskedRule, drop_repeated};
+use asp_defs::NoMemory;
+use std::alloc::Global;
+
+/// Up to so many rules it takes longer to sort them than to keep what is repeated.
+const FEW: usize = 16;
+
+/// The atoms of the rule.
+pub fn atoms(rule: &MaskedRule) -> u32
+    ensures { result ≡ rule_atoms rule.now }
+{
+    rule.positive | rule.negative | rule.head
+}
+
+/// False only where each of the parts satisfies what the reducts by the sets have of the rule.
+fn can_matter(rule: &MaskedRule, set: u32, small: u32, rest: u32) -> bool
+    ensures { result ≡ can_matter_by rule.now set small rest }
+{
+    rule.negative & set == 0
+        && !(rule.choice && rule.head & (set | rest) == 0)
+        && rule.positive & (small | rest) == rule.positive
+        && rule.head & small == 0
+}
+
+/// The rule without the atoms that are decided, where it can matter.
+fn narrowed(rule: &MaskedRule, set: u32, rest: u32) -> MaskedRule
+    ensures { result ≡ narrowed_by set rest rule.now }
+{
+    MaskedRule {
+        positive: rule.positive & rest,
+        negative: rule.negative & rest,
+        head: rule.head & rest,
+        choice: rule.choice && rule.head & set == 0,
+    }
+}
+
+/// What is left of the rules; none where a rule without atoms is, which each of the parts breaks. Equal ones are dropped where
+/// there are many.
+pub fn rules_left(
+    alloc: Global,
+    rules: &[MaskedRule],
+    set: u32,
+    small: u32,
+    rest: u32,
+) -> Result<Option<Vec<MaskedRule>>, NoMemory>
+    ensures broken { IfOk result (λ left. left ≡ None → list_any is_bare (left_of set small rest rules.now) ≡ true) }
+    ensures whole { IfOk result (λ left. IfSome left (λ left. IsWhole left.items (left_of set small rest rules.now))) }
+{
+    let mut left = Vec::new(alloc);
+    for rule in rules {
+        if can_matter(rule, set, small, rest) {
+            let narrow = narrowed(rule, set, rest);
+            if atoms(&narrow) == 0 {
+                return Ok(None);
+            }
+            left.push(narrow)?;
+        }
+    }
+    if left.len() > FEW {
+        drop_repeated(&mut left);
+    }
+    Ok(Some(left))
+}
+
+/// A rule with the fewest atoms; none where there is no rule.
+pub fn shortest(rules: &[MaskedRule]) -> Option<MaskedRule>
+    ensures none { result ≡ None → rules.now ≡ [] }
+    ensures member { IfSome result (λ rule. Contains rules.now rule) }
+{
+    let mut shortest = *rules.first()?;
+    for rule in rules {
+        if atoms(rule).count_ones() < atoms(&shortest).count_ones() {
+            shortest = *rule;
+        }
+    }
+    Some(shortest)
+}
