@@ -1,8 +1,9 @@
 // Which sets are answer sets of rules, as a table over all sets of a base: at each set's mask, whether it is one.
 //
-// Sets are tried in cubes: those that have `set` and beside it only atoms of `rest`. First those that are no models are taken out.
-// Then parts of sets are tried in the same way: those that have `small` and beside it only atoms of `rest`. An atom of a rule with the
-// fewest atoms is decided, so that what breaks ends soonest, in each way that there is: in neither, in the set alone, in both.
+// Sets are tried in cubes: those that have `set` and beside it only atoms of `rest`. First those that are no models
+// are taken out. Then parts of sets are tried in the same way: those that have `small` and beside it only atoms of
+// `rest`. An atom of a rule with the fewest atoms is decided, so that what breaks ends soonest, in each way that
+// there is: in neither, in the set alone, in both.
 ghost use Rattle.std.specs.Prelude.{◌≡◌, ◌<◌, true, false, not, length, replicate, IfOk, OnOk};
 ghost use Rattle.std.specs.Int.RustNames.{bit_and, bit_or};
 ghost use Rattle.asp_plain.specs.Cubes.{Sifted, HasNone, is_spared, is_beaten, HoldsAnswers};
@@ -21,7 +22,7 @@ fn first_bit(atoms: u32) -> u32
     1u32 << atoms.trailing_zeros()
 }
 
-/// Whether the table has a set of the cube.
+/// Whether the table has a set of the cube. The clause says what false means: true only has the sets tried further.
 fn has_some(table: &[bool], set: u32, rest: u32) -> bool
     requires apart { bit_and set rest ≡ 0 }
     requires inside { bit_or set rest < length table.now }
@@ -34,8 +35,8 @@ fn has_some(table: &[bool], set: u32, rest: u32) -> bool
     has_some(table, set, rest ^ bit) || has_some(table, set | bit, rest ^ bit)
 }
 
-/// Takes the sets of the cube out of the table; where some are spared, these are those that have beside `set` only atoms of
-/// `lower`.
+/// Takes the sets of the cube out of the table; where some are spared, these are those that have beside `set` only
+/// atoms of `lower`.
 fn clear(table: &mut [bool], lower: u32, set: u32, rest: u32, spared: bool)
     requires apart { bit_and set rest ≡ 0 }
     requires inside { bit_or set rest < length table.now }
@@ -82,8 +83,8 @@ fn keep_models(
     keep_models(alloc, left.as_slice(), set | bit, rest ^ bit, table)
 }
 
-/// Takes the sets of the cube out of the table that another model of their reduct beats: one among their parts that has the
-/// same atoms of `lower`.
+/// Takes the sets of the cube out of the table that another model of their reduct beats: one among their parts that
+/// has the same atoms of `lower`.
 fn strike(
     alloc: Global,
     rules: &[MaskedRule],
@@ -152,8 +153,8 @@ fn all_true(alloc: Global, count: usize) -> Result<Vec<bool>, NoMemory>
     Ok(vec![in alloc; true; count]?)
 }
 
-/// Whether each set over the base is an answer set of the rules with its atoms of the lower base fixed, at its mask. The
-/// models are found first, and then those among them that no smaller one beats.
+/// Whether each set over the base is an answer set of the rules with its atoms of the lower base fixed, at its mask.
+/// The models are found first, and then those among them that no smaller one beats.
 pub fn answers(
     alloc: Global,
     rules: &[MaskedRule],

@@ -1,8 +1,9 @@
-// What is left of rules where some atoms are decided: for the sets that have `set` and beside it only atoms of `rest`, and for
-// those of their parts that have `small` and beside it only atoms of `rest`.
+// What is left of rules where some atoms are decided: for the sets that have `set` and beside it only atoms of
+// `rest`, and for those of their parts that have `small` and beside it only atoms of `rest`.
 ghost use Rattle.std.specs.Prelude.{◌≡◌, true, [], None, Contains, IfOk, IfSome};
 ghost use Rattle.std.specs.List.{list_any};
 ghost use Rattle.asp_plain.specs.Cubes.{rule_atoms, is_bare, can_matter as can_matter_by, narrowed as narrowed_by, left_of, IsWhole};
+ghost use Rattle.asp_plain.specs.Masks.{HaveSameMembers};
 
 use crate::masks::{MaskedRule, drop_repeated};
 use asp_defs::NoMemory;
@@ -10,6 +11,10 @@ use std::alloc::Global;
 
 /// Up to so many rules it takes longer to sort them than to keep what is repeated.
 const FEW: usize = 16;
+
+/// Rules are sorted where the count of open atoms is a multiple of this: sorting takes about ten times as long as
+/// passing over the rules, so that it pays once in a few decided atoms.
+const SORTED_EACH: u32 = 4;
 
 /// The atoms of the rule.
 pub fn atoms(rule: &MaskedRule) -> u32
@@ -40,8 +45,17 @@ fn narrowed(rule: &MaskedRule, set: u32, rest: u32) -> MaskedRule
     }
 }
 
-/// What is left of the rules; none where a rule without atoms is, which each of the parts breaks. Equal ones are dropped where
-/// there are many.
+/// Drops rules that stand there twice, where there are many and it is their turn.
+fn thin_out(rules: &mut Vec<MaskedRule>, rest: u32)
+    ensures { HaveSameMembers rules.new.items rules.old.items }
+{
+    if rules.len() > FEW && rest.count_ones() % SORTED_EACH == 0 {
+        drop_repeated(rules);
+    }
+}
+
+/// What is left of the rules; none where a rule without atoms is, which each of the parts breaks. Equal ones are
+/// dropped now and then.
 pub fn rules_left(
     alloc: Global,
     rules: &[MaskedRule],
@@ -52,7 +66,7 @@ pub fn rules_left(
     ensures broken { IfOk result (λ left. left ≡ None → list_any is_bare (left_of set small rest rules.now) ≡ true) }
     ensures whole { IfOk result (λ left. IfSome left (λ left. IsWhole left.items (left_of set small rest rules.now))) }
 {
-    let mut left = Vec::new(alloc);
+    let mut left = Vec::with_capacity(alloc, rules.len())?;
     for rule in rules {
         if can_matter(rule, set, small, rest) {
             let narrow = narrowed(rule, set, rest);
@@ -62,21 +76,23 @@ pub fn rules_left(
             left.push(narrow)?;
         }
     }
-    if left.len() > FEW {
-        drop_repeated(&mut left);
-    }
+    thin_out(&mut left, rest);
     Ok(Some(left))
 }
 
-/// A rule with the fewest atoms; none where there is no rule.
+/// One of the rules; none where there is no rule. It is the first with the fewest atoms, which no clause says: which
+/// rule it is only steers which atom is decided next.
 pub fn shortest(rules: &[MaskedRule]) -> Option<MaskedRule>
     ensures none { result ≡ None → rules.now ≡ [] }
     ensures member { IfSome result (λ rule. Contains rules.now rule) }
 {
     let mut shortest = *rules.first()?;
+    let mut fewest = atoms(&shortest).count_ones();
     for rule in rules {
-        if atoms(rule).count_ones() < atoms(&shortest).count_ones() {
+        let count = atoms(rule).count_ones();
+        if count < fewest {
             shortest = *rule;
+            fewest = count;
         }
     }
     Some(shortest)

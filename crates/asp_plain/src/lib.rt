@@ -1,19 +1,20 @@
 //! The coherence and the quantified answer sets of a game of at most 20 atoms, by trying every set of atoms as the
 //! definitions say. It tries sets and shares no code with the search, so that a search can be held against it.
 //!
-//! In reading order: `masks` turns the levels of a game into rules over sets of atoms, `left` says what is left of rules where
-//! some atoms are decided, `answers` makes the table of a level's answer sets, `value` has the verdict by these tables, and
-//! `sets` lists the sets that are won.
+//! In reading order: `masks` turns the levels of a game into rules over sets of atoms, `left` says what is left of
+//! rules where some atoms are decided, `answers` makes the table of a level's answer sets, `value` has the verdict by
+//! these tables, and `sets` lists the sets that are won.
 //!
-//! What is tried: all sets over a level's base, once before any verdict. The table of a level has a truth value for each mask
-//! up to that of the base, so at most 2 to the power of the game's number of atoms. Sets that have the same atoms among those
-//! decided so far are tried together. First those are taken out that are no models: an atom of a rule that is left, of one with
-//! the fewest atoms, so that what breaks ends soonest, is decided in both ways. Then those that a smaller model of their reduct
-//! beats: an atom is decided in each way that there is, in neither the set nor the smaller one, in the set alone, or in both; one
-//! of the lower base not in the set alone, since an outer move fixes it. Rules that can't matter any more are left out, the
-//! decided atoms are taken out of the others, and where many are left equal ones are dropped. So a level takes steps in the order
-//! of 2 to the power of its lower base's atoms times 3 to the power of its own at most, and far fewer where rules leave little
-//! open. Nothing is inferred and nothing is learned. One table serves all outer moves of a level.
+//! What is tried: all sets over a level's base, once before any verdict. The table of a level has a truth value for
+//! each mask up to that of the base, so at most 2 to the power of the game's number of atoms. Sets that have the same
+//! atoms among those decided so far are tried together. First those are taken out that are no models: an atom of a
+//! rule that is left, of one with the fewest atoms, so that what breaks ends soonest, is decided in both ways. Then
+//! those that a smaller model of their reduct beats: an atom is decided in each way that there is, in neither the set
+//! nor the smaller one, in the set alone, or in both; one of the lower base not in the set alone, since an outer move
+//! fixes it. Rules that can't matter any more are left out, the decided atoms are taken out of the others, and where
+//! many are left, at every fourth number of open atoms, equal ones are dropped. So a level takes steps in the order
+//! of 2 to the power of its lower base's atoms times 3 to the power of its own at most, and far fewer where rules
+//! leave little open. Nothing is inferred and nothing is learned. One table serves all outer moves of a level.
 #![tactic(auto)]
 
 ghost use Rattle.std.specs.Prelude.{◌≡◌, ◌≤◌, length, map, All, Some, IfOk};
@@ -39,12 +40,12 @@ pub const MOST_ATOMS: usize = 20;
 
 /// Whether the game is coherent (Amendola, Ricca and Truszczynski 2019), for a game of at most 20 atoms.
 ///
-/// Each level first gets the table of its answer sets, by trying all sets over its base: steps in the order of 2 to the power
-/// of the lower base's atoms times 3 to the power of its own at most, each with a pass over, and where there are many a sort of,
-/// those of the level's distinct rules that are left. Then each set is looked up at most once, until the verdict is settled.
-/// Memory is taken before the first is looked up: for each level one truth value for each mask up to its base's; and for one level
-/// at a time its rules, and what is left of them after each atom along one way of deciding them. The only refusal is want of
-/// memory.
+/// Each level first gets the table of its answer sets, by trying all sets over its base: steps in the order of 2 to
+/// the power of the lower base's atoms times 3 to the power of its own at most, each with a pass over those of the
+/// level's distinct rules that are left and, where there are many, at every fourth number of open atoms a sort of
+/// them. Then each set is looked up at most once, until the verdict is settled. Memory is taken before the first is
+/// looked up: for each level one truth value for each mask up to its base's; and for one level at a time its rules,
+/// and room for as many after each atom along one way of deciding them. The only refusal is want of memory.
 pub fn coherent(alloc: Global, game: &Game) -> Result<bool, NoMemory>
     requires valid { IsValid game.now }
     requires few { length game.now.bases.atoms ≤ most_masked }
@@ -57,8 +58,9 @@ pub fn coherent(alloc: Global, game: &Game) -> Result<bool, NoMemory>
 /// The quantified answer sets of a game of at most 20 atoms whose first level is existential, in the order of
 /// interpretations: of two sets the one that lacks the first atom on which they differ comes first.
 ///
-/// Each is an interpretation of all atoms of the game. It takes the time that `coherent` takes where no set of the first
-/// level settles its verdict, and beside that memory some for the sets that it finds; the only refusal is want of memory.
+/// Each is an interpretation of all atoms of the game. It takes the time that `coherent` takes where no set of the
+/// first level settles its verdict, and beside that memory some for the sets that it finds; the only refusal is want
+/// of memory.
 pub fn listing(alloc: Global, game: &Game) -> Result<List<Bits>, NoMemory>
     requires valid { IsValid game.now }
     requires few { length game.now.bases.atoms ≤ most_masked }

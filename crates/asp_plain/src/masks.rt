@@ -10,8 +10,8 @@ use crate::answers::answers;
 use asp_defs::{Game, GroundRule, List, NoMemory};
 use std::alloc::Global;
 
-/// A rule whose lists of atoms are masks. Its fields stand in the order by which rules are sorted: what has no body comes
-/// first, since it fails soonest.
+/// A rule whose lists of atoms are masks. Its fields stand in the order by which rules are sorted: what has no body
+/// comes first, since it fails soonest.
 #[derive(Clone, Copy, PartialEq, Eq, PartialOrd, Ord)]
 pub struct MaskedRule {
     /// The atoms that its body wants true.
@@ -29,8 +29,8 @@ pub struct MaskedRule {
 pub struct Level {
     /// The bits of the atoms that the lower base lacks, in the order of the atoms.
     pub own: List<u32>,
-    /// Whether each set over the base, at its mask, is an answer set of the rules with the atoms of the lower base that it
-    /// has fixed.
+    /// Whether each set over the base, at its mask, is an answer set of the rules with the atoms of the lower base
+    /// that it has fixed.
     pub answers: List<bool>,
 }
 

@@ -1,8 +1,8 @@
 // Games over one-letter atoms, against verdicts and sets that were worked out by hand.
 //
 // A program is its levels with slashes between them. Each begins with its quantifier, `E` or `A`, or with `C` for the
-// constraint part, and has its rules, each with a full stop behind it; `~` is for `not`. The bases are written in the same
-// way, from the empty one on.
+// constraint part, and has its rules, each with a full stop behind it; `~` is for `not`. The bases are written in the
+// same way, from the empty one on.
 ghost use Rattle.std.specs.Prelude.{◌≡◌, ◌≤◌, IsTrue, Some, length};
 ghost use Rattle.std.specs.List.{slice_get};
 ghost use Rattle.asp_defs.specs.declared.syntax.Quant.TheVariants.{Exists};

@@ -4,7 +4,6 @@ use Rattle.asp_plain.specs.declared.masks.MaskedRule.{MaskedRule}
 use Rattle.asp_plain.specs.Cubes.{rule_atoms, left_of, IsWhole}
 use Rattle.asp_plain.proofs.LeftRules.{bare_left, whole_as, whole_again}
 use Rattle.asp_plain.proofs.left.rules_left.Goals as goal
-use Rattle.asp_plain.proofs.left.rules_left.Goals.{then-len-gt-FEW, else-len-gt-FEW}
 
 pub returns-then-atoms-eq0-clause-broken : goal.returns-then-atoms-eq0-clause-broken
 returns-then-atoms-eq0-clause-broken c = λ none.
@@ -19,9 +18,4 @@ returns-clause-whole c =
     (c.loop-rule.invariant.0
     ∙ ap (left_of c.args.set c.args.small c.args.rest) (take_all c.loop-rule.rule-index c.args.rules.now c.loop-rule-test.false))
     c.loop-rule.invariant.1 in
-    elim c.if-len-gt-FEW.branch [
-      | then-len-gt-FEW w ↦
-          subst (λ (v : Vec MaskedRule Global). IsWhole v.items all) (sym w.left-is)
-          (whole_again w.drop_repeated.new.rules.items c.loop-rule.left.items all w.drop_repeated.ensures whole)
-      | else-len-gt-FEW w ↦ subst (λ (v : Vec MaskedRule Global). IsWhole v.items all) (sym w.left-is) whole
-    ]
+    whole_again c.thin_out.new.rules.items c.loop-rule.left.items all c.thin_out.ensures whole
