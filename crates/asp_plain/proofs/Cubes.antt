@@ -36,7 +36,7 @@ and_all false = refl
 and_none : (p : Bool) → (p && false) ≡ false
 and_none p = and_right p false refl
 
-no_bit : (a : ℕ) → bit 0 a ≡ false
+pub no_bit : (a : ℕ) → bit 0 a ≡ false
 no_bit a = ap (λ (x : ℕ). eqb x 1) (bit_at-zero a)
 
 pub only_set : (set s : ℕ) → in_cube set 0 s ≡ true → s ≡ set

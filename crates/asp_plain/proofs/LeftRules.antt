@@ -1,5 +1,5 @@
 -- What is left of rules in a cube of sets and a cube of their parts.
-use Rattle.std.proofs.Common.{◌≡◌, ◌<◌, ℕ, zero, suc, Bool, true, false, not, ◌&&◌, ◌||◌, cond, eqb, ◌⊎◌, List, [], ◌∷◌, length, get_or, map, refl, sym, ap, ◌∙◌, subst, inl, inr, arith}
+use Rattle.std.proofs.Common.{◌≡◌, ◌<◌, ℕ, zero, suc, Bool, true, false, not, ◌&&◌, ◌||◌, if◌then◌else◌, cond, eqb, ◌⊎◌, List, [], ◌∷◌, length, get_or, map, refl, sym, ap, ◌∙◌, subst, inl, inr, arith}
 use Rattle.std.specs.Prelude.{Contains}
 use Rattle.std.specs.List.{filter, list_any, list_all}
 use Rattle.std.specs.Int.RustNames.{bit_and, bit_or}
@@ -64,23 +64,27 @@ module _ (set rest s : ℕ) (inside : in_cube set rest s ≡ true) where
         | inr e ↦ bit-or set rest a ∙ or_right (bit set a) (bit rest a) e
       ]
 
-  -- it has none of some atoms where `set` has none of them and it has none of the open ones among them
-  none_split : (m : ℕ) → eqb (bit_and m s) 0 ≡ (eqb (bit_and m set) 0 && eqb (bit_and (bit_and m rest) s) 0)
-  none_split m =
-      same_test (eqb (bit_and m s) 0) (eqb (bit_and m set) 0 && eqb (bit_and (bit_and m rest) s) 0)
+  -- it has none of some atoms where `set` has none of them and it has none of those among them that are open, or of
+  -- these and more
+  none_split : (m some : ℕ) → Within rest some
+      → eqb (bit_and m s) 0 ≡ (eqb (bit_and m set) 0 && eqb (bit_and (bit_and m some) s) 0)
+  none_split m some part =
+      same_test (eqb (bit_and m s) 0) (eqb (bit_and m set) 0 && eqb (bit_and (bit_and m some) s) 0)
       (λ h.
       let apart = no_common_back m s (eqb-true (bit_and m s) 0 h) in
-      and_from (eqb (bit_and m set) 0) (eqb (bit_and (bit_and m rest) s) 0) (none_within m set s (cube_has set rest s inside) h)
-      (eq-eqb (bit_and (bit_and m rest) s) 0 (no_common (bit_and m rest) s (λ a k. apart a (part_left m rest a k)))))
+      and_from (eqb (bit_and m set) 0) (eqb (bit_and (bit_and m some) s) 0) (none_within m set s (cube_has set rest s inside) h)
+      (eq-eqb (bit_and (bit_and m some) s) 0 (no_common (bit_and m some) s (λ a k. apart a (part_left m some a k)))))
       (λ h.
-      let parts = and_parts (eqb (bit_and m set) 0) (eqb (bit_and (bit_and m rest) s) 0) h in
+      let parts = and_parts (eqb (bit_and m set) 0) (eqb (bit_and (bit_and m some) s) 0) h in
       let none_set = no_common_back m set (eqb-true (bit_and m set) 0 parts.0) in
-      let none_rest = no_common_back (bit_and m rest) s (eqb-true (bit_and (bit_and m rest) s) 0 parts.1) in
+      let none_some = no_common_back (bit_and m some) s (eqb-true (bit_and (bit_and m some) s) 0 parts.1) in
       eq-eqb (bit_and m s) 0 (no_common m s (λ a k.
       false_from_ne_true (bit s a) (λ e.
       elim (set_or_rest a e) [
         | inl low ↦ both_ways (bit set a) (none_set a k) low
-        | inr high ↦ both_ways (bit s a) (none_rest a (bit-and m rest a ∙ and_from (bit m a) (bit rest a) k high)) e
+        | inr high ↦
+            both_ways (bit s a)
+            (none_some a (bit-and m some a ∙ and_from (bit m a) (bit some a) k (part a high))) e
       ]))))
 
   -- it has all of some atoms, each in `set` or open, where it has the open ones among them
@@ -124,28 +128,46 @@ same_sat n n' c c' p p' h h' en ec ep eh =
     ∙ ap (λ t. not n || (c || (not p || not t))) eh
 
 -- the parts of the test whether a rule can matter
-record Matters (rule : MaskedRule) (set small rest : ℕ) : Type 0 where
+record Matters (rule : MaskedRule) (set small rest loose : ℕ) : Type 0 where
   negative : eqb (bit_and rule.negative set) 0 ≡ true
   choice : (rule.choice && eqb (bit_and rule.head (bit_or set rest)) 0) ≡ false
-  positive : eqb (bit_and rule.positive (bit_or small rest)) rule.positive ≡ true
+  positive : eqb (bit_and rule.positive (bit_or small loose)) rule.positive ≡ true
   head : eqb (bit_and rule.head small) 0 ≡ true
 
-matters_at : (rule : MaskedRule) (set small rest : ℕ) → can_matter rule set small rest ≡ true → Matters rule set small rest
-matters_at rule set small rest h =
+matters_at : (rule : MaskedRule) (set small rest loose : ℕ) → can_matter rule set small rest loose ≡ true
+    → Matters rule set small rest loose
+matters_at rule set small rest loose h =
     let choice = rule.choice && eqb (bit_and rule.head (bit_or set rest)) 0 in
-    let positive = eqb (bit_and rule.positive (bit_or small rest)) rule.positive in
+    let positive = eqb (bit_and rule.positive (bit_or small loose)) rule.positive in
     let head = eqb (bit_and rule.head small) 0 in
     let all = and_parts (eqb (bit_and rule.negative set) 0) (not choice && (positive && head)) h in
     let more = and_parts (not choice) (positive && head) all.1 in
     let last = and_parts positive head more.1 in
     record { negative = all.0; choice = not-true choice more.0; positive = last.0; head = last.1 }
 
-module _ (set small rest s k : ℕ) (in_s : in_cube set rest s ≡ true) (in_k : in_cube small rest k ≡ true) where
+-- the atoms that a head may keep: those that are open for the smaller set, and where it is of a choice that may still
+-- lack it, those that are open for the set
+abbrev kept_heads : ℕ → ℕ → Bool → ℕ
+kept_heads rest loose choice = if choice then bit_or rest loose else loose
+
+open_kept : (rest loose : ℕ) (choice : Bool) → Within loose (kept_heads rest loose choice)
+open_kept rest loose true a h = bit-or rest loose a ∙ or_right (bit rest a) (bit loose a) h
+open_kept rest loose false a h = h
+
+kept_within : (rest loose : ℕ) (choice : Bool) → Within (kept_heads rest loose choice) (bit_or rest loose)
+kept_within rest loose true a h = h
+kept_within rest loose false a h = bit-or rest loose a ∙ or_right (bit rest a) (bit loose a) h
+
+and_itself : (p : Bool) (f : Bool → Bool) → (p && f p) ≡ (p && f true)
+and_itself true f = refl
+and_itself false f = refl
+
+module _ (set small rest loose s k : ℕ) (in_s : in_cube set rest s ≡ true) (in_k : in_cube small loose k ≡ true) where
   -- a rule that can't matter is satisfied
-  unmattering_held : (rule : MaskedRule) → can_matter rule set small rest ≡ false → satisfies_part rule s k ≡ true
+  unmattering_held : (rule : MaskedRule) → can_matter rule set small rest loose ≡ false → satisfies_part rule s k ≡ true
   unmattering_held rule =
       unmattering (eqb (bit_and rule.negative set) 0) (rule.choice && eqb (bit_and rule.head (bit_or set rest)) 0)
-      (eqb (bit_and rule.positive (bit_or small rest)) rule.positive) (eqb (bit_and rule.head small) 0)
+      (eqb (bit_and rule.positive (bit_or small loose)) rule.positive) (eqb (bit_and rule.head small) 0)
       (eqb (bit_and rule.negative s) 0) (rule.choice && eqb (bit_and rule.head s) 0)
       (eqb (bit_and rule.positive k) rule.positive) (eqb (bit_and rule.head k) 0)
       (none_within rule.negative set s (cube_has set rest s in_s))
@@ -153,39 +175,42 @@ module _ (set small rest s k : ℕ) (in_s : in_cube set rest s ≡ true) (in_k :
       let parts = and_parts rule.choice (eqb (bit_and rule.head (bit_or set rest)) 0) h in
       and_from rule.choice (eqb (bit_and rule.head s) 0) parts.0
       (none_within rule.head s (bit_or set rest) (in_whole set rest s in_s) parts.1))
-      (all_within rule.positive k (bit_or small rest) (in_whole small rest k in_k))
-      (none_within rule.head small k (cube_has small rest k in_k))
+      (all_within rule.positive k (bit_or small loose) (in_whole small loose k in_k))
+      (none_within rule.head small k (cube_has small loose k in_k))
 
   -- one that can is satisfied where what is left of it is
-  narrowed_same : (rule : MaskedRule) → can_matter rule set small rest ≡ true
-      → satisfies_part (narrowed set rest rule) s k ≡ satisfies_part rule s k
+  narrowed_same : (rule : MaskedRule) → can_matter rule set small rest loose ≡ true
+      → satisfies_part (narrowed set rest loose rule) s k ≡ satisfies_part rule s k
   narrowed_same rule h =
-      let matters = matters_at rule set small rest h in
+      let matters = matters_at rule set small rest loose h in
+      let choice = rule.choice && eqb (bit_and rule.head set) 0 in
+      let head = bit_and rule.head (kept_heads rest loose choice) in
       same_sat (eqb (bit_and rule.negative s) 0) (eqb (bit_and (bit_and rule.negative rest) s) 0)
-      (rule.choice && eqb (bit_and rule.head s) 0)
-      ((rule.choice && eqb (bit_and rule.head set) 0) && eqb (bit_and (bit_and rule.head rest) s) 0)
+      (rule.choice && eqb (bit_and rule.head s) 0) (choice && eqb (bit_and head s) 0)
       (eqb (bit_and rule.positive k) rule.positive)
-      (eqb (bit_and (bit_and rule.positive rest) k) (bit_and rule.positive rest))
-      (eqb (bit_and rule.head k) 0) (eqb (bit_and (bit_and rule.head rest) k) 0)
-      (sym (none_split set rest s in_s rule.negative
+      (eqb (bit_and (bit_and rule.positive loose) k) (bit_and rule.positive loose))
+      (eqb (bit_and rule.head k) 0) (eqb (bit_and head k) 0)
+      (sym (none_split set rest s in_s rule.negative rest (λ a e. e)
       ∙ ap (λ t. t && eqb (bit_and (bit_and rule.negative rest) s) 0) matters.negative))
-      (both_kept rule.choice (eqb (bit_and rule.head set) 0) (eqb (bit_and (bit_and rule.head rest) s) 0)
-      ∙ ap (λ t. rule.choice && t) (sym (none_split set rest s in_s rule.head)))
-      (sym (all_split small rest k in_k rule.positive matters.positive))
-      (sym (none_split small rest k in_k rule.head
-      ∙ ap (λ t. t && eqb (bit_and (bit_and rule.head rest) k) 0) matters.head))
+      (and_itself choice (λ t. eqb (bit_and (bit_and rule.head (kept_heads rest loose t)) s) 0)
+      ∙ (both_kept rule.choice (eqb (bit_and rule.head set) 0) (eqb (bit_and (bit_and rule.head (bit_or rest loose)) s) 0)
+      ∙ ap (λ t. rule.choice && t)
+      (sym (none_split set rest s in_s rule.head (bit_or rest loose) (outer-within rest loose)))))
+      (sym (all_split small loose k in_k rule.positive matters.positive))
+      (sym (none_split small loose k in_k rule.head (kept_heads rest loose choice) (open_kept rest loose choice)
+      ∙ ap (λ t. t && eqb (bit_and head k) 0) matters.head))
 
   -- so are all rules
   left_same : (rules : List MaskedRule)
-      → is_model_of_reduct (left_of set small rest rules) s k ≡ is_model_of_reduct rules s k
+      → is_model_of_reduct (left_of set small rest loose rules) s k ≡ is_model_of_reduct rules s k
   left_same [] = refl
   left_same (rule ∷ rules) =
-      let kept = filter (λ (r : MaskedRule). can_matter r set small rest) rules in
-      let after_test = λ (t : Bool). is_model_of_reduct (map (narrowed set rest) (cond t (rule ∷ kept) kept)) s k in
-      elim (cases_Bool (can_matter rule set small rest)) [
+      let kept = filter (λ (r : MaskedRule). can_matter r set small rest loose) rules in
+      let after_test = λ (t : Bool). is_model_of_reduct (map (narrowed set rest loose) (cond t (rule ∷ kept) kept)) s k in
+      elim (cases_Bool (can_matter rule set small rest loose)) [
         | inl matters ↦
             ap after_test matters
-            ∙ (ap (λ t. t && is_model_of_reduct (left_of set small rest rules) s k) (narrowed_same rule matters)
+            ∙ (ap (λ t. t && is_model_of_reduct (left_of set small rest loose rules) s k) (narrowed_same rule matters)
             ∙ ap (λ t. satisfies_part rule s k && t) (left_same rules))
         | inr never ↦
             ap after_test never
@@ -206,24 +231,27 @@ all_test : (m k : ℕ) → ((a : ℕ) → bit m a ≡ false) → eqb (bit_and m 
 all_test m k none = eq-eqb (bit_and m k) m (covers m k (λ a h. absurd (both_ways (bit m a) (none a) h)))
 
 -- where it can matter, what is left of it is broken
-decided_broken : (rule : MaskedRule) (set small rest s k : ℕ) → can_matter rule set small rest ≡ true
-    → rule_atoms (narrowed set rest rule) ≡ 0 → satisfies_part (narrowed set rest rule) s k ≡ false
-decided_broken rule set small rest s k h none =
-    let matters = matters_at rule set small rest h in
-    let positive = bit_and rule.positive rest in
+decided_broken : (rule : MaskedRule) (set small rest loose s k : ℕ) → can_matter rule set small rest loose ≡ true
+    → rule_atoms (narrowed set rest loose rule) ≡ 0 → satisfies_part (narrowed set rest loose rule) s k ≡ false
+decided_broken rule set small rest loose s k h none =
+    let matters = matters_at rule set small rest loose h in
+    let choice = rule.choice && eqb (bit_and rule.head set) 0 in
+    let positive = bit_and rule.positive loose in
     let negative = bit_and rule.negative rest in
-    let head = bit_and rule.head rest in
+    let head = bit_and rule.head (kept_heads rest loose choice) in
     let body = bit_or positive negative in
     let no_positive = no_bits positive (bit_or body head) (λ a e. outer-within body head a (outer-within positive negative a e)) none in
     let no_negative =
     no_bits negative (bit_or body head)
     (λ a e. outer-within body head a (bit-or positive negative a ∙ or_right (bit positive a) (bit negative a) e)) none in
     let no_head = no_bits head (bit_or body head) (λ a e. bit-or body head a ∙ or_right (bit body a) (bit head a) e) none in
-    let no_choice : ((rule.choice && eqb (bit_and rule.head set) 0) && eqb (bit_and head s) 0) ≡ false =
-    false_from_ne_true ((rule.choice && eqb (bit_and rule.head set) 0) && eqb (bit_and head s) 0) (λ e.
-    let first = and_parts (rule.choice && eqb (bit_and rule.head set) 0) (eqb (bit_and head s) 0) e in
-    let parts = and_parts rule.choice (eqb (bit_and rule.head set) 0) first.0 in
+    let no_choice : (choice && eqb (bit_and head s) 0) ≡ false =
+    false_from_ne_true (choice && eqb (bit_and head s) 0) (λ e.
+    let is_choice = (and_parts choice (eqb (bit_and head s) 0) e).0 in
+    let parts = and_parts rule.choice (eqb (bit_and rule.head set) 0) is_choice in
     let none_set = no_common_back rule.head set (eqb-true (bit_and rule.head set) 0 parts.1) in
+    let none_open : (a : ℕ) → bit (bit_and rule.head (bit_or rest loose)) a ≡ false =
+    subst (λ (t : Bool). (a : ℕ) → bit (bit_and rule.head (kept_heads rest loose t)) a ≡ false) is_choice no_head in
     both_ways (rule.choice && eqb (bit_and rule.head (bit_or set rest)) 0) matters.choice
     (and_from rule.choice (eqb (bit_and rule.head (bit_or set rest)) 0) parts.0
     (eq-eqb (bit_and rule.head (bit_or set rest)) 0 (no_common rule.head (bit_or set rest) (λ a there.
@@ -231,63 +259,69 @@ decided_broken rule set small rest s k h none =
     elim (or_cases (bit set a) (bit rest a) (sym (bit-or set rest a) ∙ w)) [
       | inl low ↦ both_ways (bit set a) (none_set a there) low
       | inr high ↦
-          both_ways (bit head a) (no_head a) (bit-and rule.head rest a ∙ and_from (bit rule.head a) (bit rest a) there high)
+          both_ways (bit (bit_and rule.head (bit_or rest loose)) a) (none_open a)
+          (bit-and rule.head (bit_or rest loose) a
+          ∙ and_from (bit rule.head a) (bit (bit_or rest loose) a) there (outer-within rest loose a high))
     ])))))) in
-    same_sat true (eqb (bit_and negative s) 0) false ((rule.choice && eqb (bit_and rule.head set) 0) && eqb (bit_and head s) 0)
+    same_sat true (eqb (bit_and negative s) 0) false (choice && eqb (bit_and head s) 0)
     true (eqb (bit_and positive k) positive) true (eqb (bit_and head k) 0) (none_test negative s no_negative) no_choice
     (all_test positive k no_positive) (none_test head k no_head)
 
-module _ (rules left : List MaskedRule) (set small rest : ℕ) (members : HaveSameMembers left (left_of set small rest rules)) where
+module _ (rules left : List MaskedRule) (set small rest loose : ℕ) (members : HaveSameMembers left (left_of set small rest loose rules)) where
   -- the models of the reduct in the cubes
-  pub models_left : (s k : ℕ) → in_cube set rest s ≡ true → in_cube small rest k ≡ true
+  pub models_left : (s k : ℕ) → in_cube set rest s ≡ true → in_cube small loose k ≡ true
       → is_model_of_reduct left s k ≡ is_model_of_reduct rules s k
   models_left s k in_s in_k =
-      all-members (λ (rule : MaskedRule). satisfies_part rule s k) left (left_of set small rest rules) members
-      ∙ left_same set small rest s k in_s in_k rules
+      all-members (λ (rule : MaskedRule). satisfies_part rule s k) left (left_of set small rest loose rules) members
+      ∙ left_same set small rest loose s k in_s in_k rules
 
   -- where a rule that is left is from
   origin : (rule : MaskedRule) → IsIn rule left
-      → (r : MaskedRule) × (can_matter r set small rest ≡ true) × (rule ≡ narrowed set rest r)
+      → (r : MaskedRule) × (can_matter r set small rest loose ≡ true) × (rule ≡ narrowed set rest loose r)
   origin rule i =
       let there = members.within rule (place_of left rule i) in
-      let found = map_at (narrowed set rest) (filter (λ (r : MaskedRule). can_matter r set small rest) rules) rule
-      (member_at (left_of set small rest rules) rule there.0 there.1 there.2) in
-      (found.0, (filter_at (λ (r : MaskedRule). can_matter r set small rest) rules found.0 found.1).1, found.2)
+      let found = map_at (narrowed set rest loose) (filter (λ (r : MaskedRule). can_matter r set small rest loose) rules) rule
+      (member_at (left_of set small rest loose rules) rule there.0 there.1 there.2) in
+      (found.0, (filter_at (λ (r : MaskedRule). can_matter r set small rest loose) rules found.0 found.1).1, found.2)
 
-  -- its atoms are open
-  pub open_rest : (rule : MaskedRule) → IsIn rule left → Within (rule_atoms rule) rest
-  open_rest rule i =
+  -- its atoms are open for the set or for the smaller set
+  pub atoms_open : (rule : MaskedRule) → IsIn rule left → Within (rule_atoms rule) (bit_or rest loose)
+  atoms_open rule i =
       let source = origin rule i in
-      subst (λ (r : MaskedRule). Within (rule_atoms r) rest) (sym source.2)
-      (or-within (bit_or (bit_and source.0.positive rest) (bit_and source.0.negative rest)) (bit_and source.0.head rest) rest
-      (or-within (bit_and source.0.positive rest) (bit_and source.0.negative rest) rest (part_right source.0.positive rest)
-      (part_right source.0.negative rest))
-      (part_right source.0.head rest))
+      let r = source.0 in
+      let heads = kept_heads rest loose (r.choice && eqb (bit_and r.head set) 0) in
+      subst (λ (r : MaskedRule). Within (rule_atoms r) (bit_or rest loose)) (sym source.2)
+      (or-within (bit_or (bit_and r.positive loose) (bit_and r.negative rest)) (bit_and r.head heads) (bit_or rest loose)
+      (or-within (bit_and r.positive loose) (bit_and r.negative rest) (bit_or rest loose)
+      (λ a e. bit-or rest loose a ∙ or_right (bit rest a) (bit loose a) (part_right r.positive loose a e))
+      (λ a e. outer-within rest loose a (part_right r.negative rest a e)))
+      (λ a e.
+      kept_within rest loose (r.choice && eqb (bit_and r.head set) 0) a (part_right r.head heads a e)))
 
   -- one without atoms is broken
   pub broken_by_all : (rule : MaskedRule) → IsIn rule left → rule_atoms rule ≡ 0 → (s k : ℕ) → in_cube set rest s ≡ true
-      → in_cube small rest k ≡ true → is_model_of_reduct rules s k ≡ false
+      → in_cube small loose k ≡ true → is_model_of_reduct rules s k ≡ false
   broken_by_all rule i none s k in_s in_k =
       let source = origin rule i in
       false_from_ne_true (is_model_of_reduct rules s k) (λ model.
-      both_ways (satisfies_part (narrowed set rest source.0) s k)
-      (decided_broken source.0 set small rest s k source.1 (subst (λ (r : MaskedRule). rule_atoms r ≡ 0) source.2 none))
+      both_ways (satisfies_part (narrowed set rest loose source.0) s k)
+      (decided_broken source.0 set small rest loose s k source.1 (subst (λ (r : MaskedRule). rule_atoms r ≡ 0) source.2 none))
       (subst (λ (r : MaskedRule). satisfies_part r s k ≡ true) source.2
       (all_at (λ (r : MaskedRule). satisfies_part r s k) left rule (models_left s k in_s in_k ∙ model) i)))
 
 -- ---- lists that are left
 
 -- a rule without atoms is left
-pub bare_left : (rules : List MaskedRule) (set small rest k : ℕ) (d : MaskedRule) → k < length rules
-    → can_matter (get_or rules k d) set small rest ≡ true → rule_atoms (narrowed set rest (get_or rules k d)) ≡ 0
-    → list_any is_bare (left_of set small rest rules) ≡ true
-bare_left rules set small rest k d l matters none =
+pub bare_left : (rules : List MaskedRule) (set small rest loose k : ℕ) (d : MaskedRule) → k < length rules
+    → can_matter (get_or rules k d) set small rest loose ≡ true → rule_atoms (narrowed set rest loose (get_or rules k d)) ≡ 0
+    → list_any is_bare (left_of set small rest loose rules) ≡ true
+bare_left rules set small rest loose k d l matters none =
     let rule = get_or rules k d in
-    any_from is_bare (left_of set small rest rules) (narrowed set rest rule)
-    (map_from (narrowed set rest) (filter (λ (r : MaskedRule). can_matter r set small rest) rules) rule
-    (filter_from (λ (r : MaskedRule). can_matter r set small rest) rules rule
+    any_from is_bare (left_of set small rest loose rules) (narrowed set rest loose rule)
+    (map_from (narrowed set rest loose) (filter (λ (r : MaskedRule). can_matter r set small rest loose) rules) rule
+    (filter_from (λ (r : MaskedRule). can_matter r set small rest loose) rules rule
     (member_at rules rule k l (get_or_in rules k l)) matters))
-    (eq-eqb (rule_atoms (narrowed set rest rule)) 0 none)
+    (eq-eqb (rule_atoms (narrowed set rest loose rule)) 0 none)
   where
     get_or_in : (xs : List MaskedRule) (i : ℕ) → i < length xs → get_or xs i (get_or xs i d) ≡ get_or xs i d
     get_or_in [] i h = absurd (omega arith)
@@ -315,10 +349,10 @@ whole_again new left rules same whole = record {
 }
 
 -- the rules that are left, where one of them has no atoms
-pub bare_broken : (rules : List MaskedRule) (set small rest : ℕ) → list_any is_bare (left_of set small rest rules) ≡ true
-    → (s k : ℕ) → in_cube set rest s ≡ true → in_cube small rest k ≡ true → is_model_of_reduct rules s k ≡ false
-bare_broken rules set small rest bare s k in_s in_k =
-    let all = left_of set small rest rules in
+pub bare_broken : (rules : List MaskedRule) (set small rest loose : ℕ) → list_any is_bare (left_of set small rest loose rules) ≡ true
+    → (s k : ℕ) → in_cube set rest s ≡ true → in_cube small loose k ≡ true → is_model_of_reduct rules s k ≡ false
+bare_broken rules set small rest loose bare s k in_s in_k =
+    let all = left_of set small rest loose rules in
     let w = any_at is_bare all bare in
-    broken_by_all rules all set small rest (record { within = λ x h. h; whole = λ x h. h }) w.0 w.1
+    broken_by_all rules all set small rest loose (record { within = λ x h. h; whole = λ x h. h }) w.0 w.1
     (eqb-true (rule_atoms w.0) 0 w.2) s k in_s in_k

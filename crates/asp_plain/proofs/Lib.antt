@@ -3,6 +3,7 @@ pub mod Beaten
 pub mod Beside
 pub mod Between
 pub mod Bounds
+pub mod Calls
 pub mod Checking
 pub mod Claims
 pub mod Coherence
@@ -18,4 +19,5 @@ pub mod Models
 pub mod Moves
 pub mod Repeated
 pub mod Standing
+pub mod Striking
 pub mod Tables

@@ -2,11 +2,12 @@
 //
 // Sets are tried in cubes: those that have `set` and beside it only atoms of `rest`. First those that are no models
 // are taken out. Then parts of sets are tried in the same way: those that have `small` and beside it only atoms of
-// `rest`. An atom of a rule with the fewest atoms is decided, so that what breaks ends soonest, in each way that
-// there is: in neither, in the set alone, in both.
+// `loose`. An atom of a rule with the fewest atoms is decided, so that what breaks ends soonest, in both ways: for the
+// part alone where the rule's positive body or head asks for it, since a part that breaks a rule then ends for all
+// sets at once; else for the set.
 ghost use Rattle.std.specs.Prelude.{◌≡◌, ◌<◌, true, false, not, length, replicate, IfOk, OnOk};
 ghost use Rattle.std.specs.Int.RustNames.{bit_and, bit_or};
-ghost use Rattle.asp_plain.specs.Cubes.{Sifted, HasNone, is_spared, is_beaten, HoldsAnswers};
+ghost use Rattle.asp_plain.specs.Cubes.{rule_atoms, Sifted, HasNone, is_spared, is_beaten, HoldsAnswers};
 ghost use Rattle.asp_plain.specs.Masks.{IsBitOf, is_model_of_reduct};
 
 use crate::left::{atoms, rules_left, shortest};
@@ -71,7 +72,7 @@ fn keep_models(
     requires inside { bit_or set rest < length table.now }
     ensures { OnOk result (Sifted set rest (λ s. is_model_of_reduct rules.now s s) table.old table.new) }
 {
-    let Some(left) = rules_left(alloc, rules, set, set, rest)? else {
+    let Some(left) = rules_left(alloc, rules, set, set, rest, rest)? else {
         clear(table, 0, set, rest, false);
         return Ok(());
     };
@@ -83,8 +84,18 @@ fn keep_models(
     keep_models(alloc, left.as_slice(), set | bit, rest ^ bit, table)
 }
 
+/// The bit of an atom of the rule. It is one that is open for the smaller set where the positive body or the head has
+/// one, which no clause says: which atom it is only steers how soon what breaks ends.
+fn chosen(rule: &MaskedRule, loose: u32) -> u32
+    requires { 0 < rule_atoms rule.now }
+    ensures { IsBitOf (rule_atoms rule.now) result }
+{
+    let wanted = (rule.positive | rule.head) & loose;
+    first_bit(if wanted == 0 { atoms(rule) } else { wanted })
+}
+
 /// Takes the sets of the cube out of the table that another model of their reduct beats: one among their parts that
-/// has the same atoms of `lower`.
+/// has `small`, beside it only atoms of `loose`, and of these all those of `lower` that the set has.
 fn strike(
     alloc: Global,
     rules: &[MaskedRule],
@@ -92,56 +103,60 @@ fn strike(
     set: u32,
     small: u32,
     rest: u32,
+    loose: u32,
     table: &mut [bool],
 ) -> Result<(), NoMemory>
     requires apart { bit_and set rest ≡ 0 }
     requires part { bit_and small set ≡ small }
+    requires free { bit_and small loose ≡ 0 }
+    requires within { bit_and loose (bit_or set rest) ≡ loose }
+    requires settled { bit_and (bit_and loose lower) set ≡ 0 }
     requires inside { bit_or set rest < length table.now }
-    ensures { OnOk result (Sifted set rest (λ s. not (is_beaten rules.now lower small rest s)) table.old table.new) }
+    ensures { OnOk result (Sifted set rest (λ s. not (is_beaten rules.now lower small loose s)) table.old table.new) }
 {
-    if small == set && rest & lower == rest {
+    if small | loose == set | rest && loose & lower == loose {
         return Ok(());
     }
     if !has_some(table, set, rest) {
         return Ok(());
     }
-    let Some(left) = rules_left(alloc, rules, set, small, rest)? else {
+    let Some(left) = rules_left(alloc, rules, set, small, rest, loose)? else {
         return Ok(());
     };
-    let Some(rule) = shortest(left.as_slice()) else {
-        clear(table, lower, set, rest, small == set);
+    let kept = left.as_slice();
+    let Some(rule) = shortest(kept) else {
+        clear(table, lower & loose, set, rest, small == set);
         return Ok(());
     };
-    let bit = first_bit(atoms(&rule));
-    let others = rest ^ bit;
-    strike(alloc, left.as_slice(), lower, set, small, others, table)?;
-    if bit & lower != 0 {
+    let bit = chosen(&rule, loose);
+    if bit & loose != 0 && bit & lower == 0 {
+        // An atom that the smaller set lacks stays open for the set.
+        let fewer = loose ^ bit;
+        strike(alloc, kept, lower, set, small, rest, fewer, table)?;
         return strike(
             alloc,
-            left.as_slice(),
+            kept,
             lower,
             set | bit,
             small | bit,
-            others,
+            (rest | bit) ^ bit,
+            fewer,
             table,
         );
     }
+    // An atom that an outer move fixes is decided for both at once.
+    let both = bit & loose;
+    let fewer = loose ^ both;
+    let others = rest ^ bit;
+    strike(alloc, kept, lower, set, small, others, fewer, table)?;
     strike(
         alloc,
-        left.as_slice(),
+        kept,
         lower,
         set | bit,
-        small,
+        small | both,
         others,
-        table,
-    )?;
-    strike(
-        alloc,
-        left.as_slice(),
-        lower,
-        set | bit,
-        small | bit,
-        others,
+        fewer,
         table,
     )
 }
@@ -165,6 +180,6 @@ pub fn answers(
 {
     let mut table = all_true(alloc, base as usize + 1)?;
     keep_models(alloc, rules, 0, base, table.as_mut_slice())?;
-    strike(alloc, rules, lower, 0, 0, base, table.as_mut_slice())?;
+    strike(alloc, rules, lower, 0, 0, base, base, table.as_mut_slice())?;
     Ok(table)
 }

@@ -9,12 +9,13 @@
 //! each mask up to that of the base, so at most 2 to the power of the game's number of atoms. Sets that have the same
 //! atoms among those decided so far are tried together. First those are taken out that are no models: an atom of a
 //! rule that is left, of one with the fewest atoms, so that what breaks ends soonest, is decided in both ways. Then
-//! those that a smaller model of their reduct beats: an atom is decided in each way that there is, in neither the set
-//! nor the smaller one, in the set alone, or in both; one of the lower base not in the set alone, since an outer move
-//! fixes it. Rules that can't matter any more are left out, the decided atoms are taken out of the others, and where
-//! many are left, at every fourth number of open atoms, equal ones are dropped. So a level takes steps in the order
-//! of 2 to the power of its lower base's atoms times 3 to the power of its own at most, and far fewer where rules
-//! leave little open. Nothing is inferred and nothing is learned. One table serves all outer moves of a level.
+//! those that a smaller model of their reduct beats: an atom that such a rule has in its positive body or its head is
+//! decided for the smaller set alone, and where that lacks it for the set later; one of the negative body, and the
+//! head of a choice, for the set. An atom of the lower base is decided for both at once, since an outer move fixes it.
+//! Rules that can't matter any more are left out, the decided atoms are taken out of the others, and where many are
+//! left, at every fourth number of open atoms, equal ones are dropped. So a level takes steps in the order of 2 to the
+//! power of its lower base's atoms times 3 to the power of its own at most, and far fewer where rules leave little
+//! open. Nothing is inferred and nothing is learned. One table serves all outer moves of a level.
 #![tactic(auto)]
 
 ghost use Rattle.std.specs.Prelude.{◌≡◌, ◌≤◌, length, map, All, Some, IfOk};

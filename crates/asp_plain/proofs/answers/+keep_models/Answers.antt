@@ -1,8 +1,7 @@
 use Rattle.std.proofs.Common.{refl, arith}
 use Rattle.std.proofs.lemmas.Result.{on_ok_weaker}
-use Rattle.asp_plain.proofs.Beaten.{one_open}
 use Rattle.asp_plain.proofs.Cubes.{apart_without, apart_with, whole_without, whole_with, rest_less}
-use Rattle.asp_plain.proofs.Kept.{all_models, no_models, models_halves}
+use Rattle.asp_plain.proofs.Kept.{one_left, all_models, no_models, models_halves}
 use Rattle.asp_plain.proofs.answers.+keep_models.Goals as goal
 
 pub returns-in_default : goal.returns-in_default
@@ -22,8 +21,8 @@ keep_models-requires t c =
     let rest = c.args.rest in
     let b = c.first_bit-bit.result in
     let whole_left = rw c.in-Some.is at c.in_ok-left.ensures.whole in
-    let one = one_open c.args.rules.now c.in-Some.left.items 0 set set rest whole_left.members c.in-Some-shortest.rule
-    c.as_slice.result.now c.atoms.result b c.as_slice.ensures.value c.in-Some-shortest.ensures.member c.atoms.ensures
+    let one = one_left c.args.rules.now c.in-Some.left.items c.as_slice.result.now set rest whole_left.members
+    c.as_slice.ensures.value c.in-Some-shortest.rule c.atoms.result b c.in-Some-shortest.ensures.member c.atoms.ensures
     c.first_bit-bit.ensures in
     let less = rest_less rest b one in
     let start = c.decreases in
@@ -37,8 +36,8 @@ keep_models-requires-2 t c =
     let rest = c.args.rest in
     let b = c.first_bit-bit.result in
     let whole_left = rw c.in-Some.is at c.in_ok-left.ensures.whole in
-    let one = one_open c.args.rules.now c.in-Some.left.items 0 set set rest whole_left.members c.in-Some-shortest.rule
-    c.as_slice.result.now c.atoms.result b c.as_slice.ensures.value c.in-Some-shortest.ensures.member c.atoms.ensures
+    let one = one_left c.args.rules.now c.in-Some.left.items c.as_slice.result.now set rest whole_left.members
+    c.as_slice.ensures.value c.in-Some-shortest.rule c.atoms.result b c.in-Some-shortest.ensures.member c.atoms.ensures
     c.first_bit-bit.ensures in
     let less = rest_less rest b one in
     let start = c.decreases in
@@ -53,8 +52,8 @@ returns t c =
     let rest = c.args.rest in
     let b = c.first_bit-bit.result in
     let whole_left = rw c.in-Some.is at c.in_ok-left.ensures.whole in
-    let one = one_open c.args.rules.now c.in-Some.left.items 0 set set rest whole_left.members c.in-Some-shortest.rule
-    c.as_slice.result.now c.atoms.result b c.as_slice.ensures.value c.in-Some-shortest.ensures.member c.atoms.ensures
+    let one = one_left c.args.rules.now c.in-Some.left.items c.as_slice.result.now set rest whole_left.members
+    c.as_slice.ensures.value c.in-Some-shortest.rule c.atoms.result b c.in-Some-shortest.ensures.member c.atoms.ensures
     c.first_bit-bit.ensures in
     on_ok_weaker c.keep_models-2.result (λ sifted.
     models_halves c.args.rules.now c.in-Some.left.items c.as_slice-2.result.now set rest whole_left.members

@@ -1,133 +1,205 @@
-use Rattle.std.proofs.Common.{List, not, refl, sym, ◌∙◌, subst, arith}
-use Rattle.std.specs.Int.RustNames.{bit_or, bit_xor}
+use Rattle.std.proofs.Common.{◌≡◌, true, refl, arith}
+use Rattle.std.specs.Int.RustNames.{bit_or}
 use Rattle.std.proofs.lemmas.Result.{on_ok_weaker}
-use Rattle.asp_plain.specs.declared.masks.MaskedRule.{MaskedRule}
-use Rattle.asp_plain.specs.Cubes.{Sifted, is_beaten}
-use Rattle.asp_plain.proofs.Cubes.{apart_without, apart_with, whole_without, whole_with, rest_less, lies_in, lies_out}
-use Rattle.asp_plain.proofs.Beaten.{cleared, unbeaten, fixed_unbeaten, one_open, struck, struck_fixed, part_without, part_with}
+use Rattle.std.proofs.lemmas.Bool.{both_ways}
+use Rattle.asp_plain.specs.Cubes.{rule_atoms, left_of}
+use Rattle.asp_plain.proofs.Atoms.{bit}
+use Rattle.asp_plain.proofs.Beaten.{one_open, unbeaten}
+use Rattle.asp_plain.proofs.Calls.{fit_of, moved, fit_alone_without, fit_alone_with, rest_alone, whole_alone, fit_without, fit_with, without_le, rest_of}
+use Rattle.asp_plain.proofs.Cubes.{whole_without, whole_with, rest_less, lies_in, lies_out}
+use Rattle.asp_plain.proofs.Striking.{same_list, same_unbeaten, cleared, struck_alone, struck}
 use Rattle.asp_plain.proofs.answers.+strike.Goals as goal
+use Rattle.asp_plain.proofs.answers.+strike.Goals.{else-bit-loose-ne0-via-then-bit-loose-ne0+else-bit-lower-eq0, else-bit-loose-ne0-via-else-bit-loose-ne0}
 
-pub returns-then-rest-lower : goal.returns-then-rest-lower
-returns-then-rest-lower t c =
-    fixed_unbeaten c.args.rules.now c.args.lower c.args.set c.args.small c.args.rest c.args.table.now c.if-small-set.true
-    c.if-rest-lower.true
+pub returns-then-loose-lower : goal.returns-then-loose-lower
+returns-then-loose-lower t c =
+    same_unbeaten c.args.rules.now c.args.lower c.args.set c.args.small c.args.rest c.args.loose c.args.table.now c.requires.part
+    c.if-small-loose.true c.if-loose-lower.true
 
 pub returns-in_default : goal.returns-in_default
 returns-in_default t c =
-    unbeaten c.args.rules.now c.args.lower c.args.set c.args.small c.args.rest c.args.table.now
+    unbeaten c.args.rules.now c.args.lower c.args.set c.args.small c.args.rest c.args.loose c.args.table.now
     (c.in_ok-left.ensures.broken c.in_default.is)
 
 pub returns-in_default-shortest : goal.returns-in_default-shortest
 returns-in_default-shortest t c =
+    let lower = c.args.lower in
+    let set = c.args.set in
+    let small = c.args.small in
+    let rest = c.args.rest in
+    let loose = c.args.loose in
+    let kept = c.as_slice-kept.result.now in
     let whole_left = rw c.in-Some.is at c.in_ok-left.ensures.whole in
-    cleared c.args.rules.now c.in-Some.left.items c.args.lower c.args.set c.args.small c.args.rest whole_left.members
-    c.args.table.now c.clear.new.table c.requires.apart c.requires.part
-    (sym c.as_slice.ensures.value ∙ c.in_default-shortest.ensures.none refl) c.clear.ensures
+    let members = same_list kept c.in-Some.left.items (left_of set small rest loose c.args.rules.now) c.as_slice-kept.ensures.value
+    whole_left.members in
+    let fit = fit_of lower set small rest loose c.requires.apart c.requires.part c.requires.free c.requires.within
+    c.requires.settled in
+    cleared c.args.rules.now kept lower set small rest loose members fit c.args.table.now c.clear.new.table
+    (c.in_default-shortest.ensures.none refl) c.clear.ensures
 
 pub strike-requires : goal.strike-requires
 strike-requires t c =
+    let lower = c.args.lower in
     let set = c.args.set in
+    let small = c.args.small in
     let rest = c.args.rest in
-    let b = c.first_bit-bit.result in
+    let loose = c.args.loose in
+    let b = c.chosen-bit.result in
+    let kept = c.as_slice-kept.result.now in
     let whole_left = rw c.in-Some.is at c.in_ok-left.ensures.whole in
-    let one = one_open c.args.rules.now c.in-Some.left.items c.args.lower set c.args.small rest whole_left.members c.in-Some-shortest.rule
-    c.as_slice.result.now c.atoms.result b c.as_slice.ensures.value c.in-Some-shortest.ensures.member c.atoms.ensures
-    c.first_bit-bit.ensures in
-    let less = rest_less rest b one in
+    let members = same_list kept c.in-Some.left.items (left_of set small rest loose c.args.rules.now) c.as_slice-kept.ensures.value
+    whole_left.members in
+    let fit = fit_of lower set small rest loose c.requires.apart c.requires.part c.requires.free c.requires.within
+    c.requires.settled in
+    let either = one_open c.args.rules.now kept lower set small rest loose members c.in-Some-shortest.rule kept
+    (rule_atoms c.in-Some-shortest.rule) b refl c.in-Some-shortest.ensures.member refl c.chosen-bit.ensures in
+    let one = moved (bit_or rest loose) b either loose (lies_in (bit_or rest loose) b either loose c.if-bit-loose-ne0.true) in
+    let less = rest_less loose b one in
     let start = c.decreases in
-    let whole = whole_without set rest b c.requires.apart one in
-    let inside = c.requires.inside in
-    (omega arith, (apart_without set rest b c.requires.apart one, (c.requires.part, omega arith)))
+    let next = fit_alone_without lower set small rest loose b fit one in
+    (omega arith, (next.apart, (next.part, (next.free, (next.within, (next.settled, c.requires.inside))))))
 
-pub strike-requires-then-bit-lower-ne0 : goal.strike-requires-then-bit-lower-ne0
-strike-requires-then-bit-lower-ne0 t c =
+pub strike-requires-then-bit-lower-eq0 : goal.strike-requires-then-bit-lower-eq0
+strike-requires-then-bit-lower-eq0 t c =
+    let lower = c.args.lower in
     let set = c.args.set in
+    let small = c.args.small in
     let rest = c.args.rest in
-    let b = c.first_bit-bit.result in
+    let loose = c.args.loose in
+    let b = c.chosen-bit.result in
+    let kept = c.as_slice-kept.result.now in
     let whole_left = rw c.in-Some.is at c.in_ok-left.ensures.whole in
-    let one = one_open c.args.rules.now c.in-Some.left.items c.args.lower set c.args.small rest whole_left.members c.in-Some-shortest.rule
-    c.as_slice.result.now c.atoms.result b c.as_slice.ensures.value c.in-Some-shortest.ensures.member c.atoms.ensures
-    c.first_bit-bit.ensures in
-    let less = rest_less rest b one in
+    let members = same_list kept c.in-Some.left.items (left_of set small rest loose c.args.rules.now) c.as_slice-kept.ensures.value
+    whole_left.members in
+    let fit = fit_of lower set small rest loose c.requires.apart c.requires.part c.requires.free c.requires.within
+    c.requires.settled in
+    let either = one_open c.args.rules.now kept lower set small rest loose members c.in-Some-shortest.rule kept
+    (rule_atoms c.in-Some-shortest.rule) b refl c.in-Some-shortest.ensures.member refl c.chosen-bit.ensures in
+    let one = moved (bit_or rest loose) b either loose (lies_in (bit_or rest loose) b either loose c.if-bit-loose-ne0.true) in
+    let less = rest_less loose b one in
+    let no_more = rest_alone lower set small rest loose b fit one in
     let start = c.decreases in
-    let whole = whole_with set rest b c.requires.apart one in
+    let next = fit_alone_with lower set small rest loose b fit one in
+    let whole = whole_alone lower set small rest loose b fit one in
     let inside = c.requires.inside in
     let long = c.in_ok-strike.ensures.long in
-    (omega arith, (apart_with set rest b c.requires.apart one, (part_with set c.args.small b c.requires.part, omega arith)))
+    (omega arith, (next.apart, (next.part, (next.free, (next.within, (next.settled, omega arith))))))
+
+pub returns-then-bit-lower-eq0 : goal.returns-then-bit-lower-eq0
+returns-then-bit-lower-eq0 t c =
+    let lower = c.args.lower in
+    let set = c.args.set in
+    let small = c.args.small in
+    let rest = c.args.rest in
+    let loose = c.args.loose in
+    let b = c.chosen-bit.result in
+    let kept = c.as_slice-kept.result.now in
+    let whole_left = rw c.in-Some.is at c.in_ok-left.ensures.whole in
+    let members = same_list kept c.in-Some.left.items (left_of set small rest loose c.args.rules.now) c.as_slice-kept.ensures.value
+    whole_left.members in
+    let fit = fit_of lower set small rest loose c.requires.apart c.requires.part c.requires.free c.requires.within
+    c.requires.settled in
+    let either = one_open c.args.rules.now kept lower set small rest loose members c.in-Some-shortest.rule kept
+    (rule_atoms c.in-Some-shortest.rule) b refl c.in-Some-shortest.ensures.member refl c.chosen-bit.ensures in
+    let one = moved (bit_or rest loose) b either loose (lies_in (bit_or rest loose) b either loose c.if-bit-loose-ne0.true) in
+    on_ok_weaker c.strike-then-bit-lower-eq0.result
+    (struck_alone c.args.rules.now kept lower set small rest loose members fit b one (lies_out loose b one lower c.if-bit-lower-eq0.true)
+    c.args.table.now c.strike.new.table c.strike-then-bit-lower-eq0.new.table c.in_ok-strike.ensures)
+    c.strike-then-bit-lower-eq0.ensures
 
 pub strike-requires-2 : goal.strike-requires-2
 strike-requires-2 t c =
+    let lower = c.args.lower in
     let set = c.args.set in
+    let small = c.args.small in
     let rest = c.args.rest in
-    let b = c.first_bit-bit.result in
+    let loose = c.args.loose in
+    let b = c.chosen-bit.result in
+    let kept = c.as_slice-kept.result.now in
     let whole_left = rw c.in-Some.is at c.in_ok-left.ensures.whole in
-    let one = one_open c.args.rules.now c.in-Some.left.items c.args.lower set c.args.small rest whole_left.members c.in-Some-shortest.rule
-    c.as_slice.result.now c.atoms.result b c.as_slice.ensures.value c.in-Some-shortest.ensures.member c.atoms.ensures
-    c.first_bit-bit.ensures in
+    let members = same_list kept c.in-Some.left.items (left_of set small rest loose c.args.rules.now) c.as_slice-kept.ensures.value
+    whole_left.members in
+    let fit = fit_of lower set small rest loose c.requires.apart c.requires.part c.requires.free c.requires.within
+    c.requires.settled in
+    let either = one_open c.args.rules.now kept lower set small rest loose members c.in-Some-shortest.rule kept
+    (rule_atoms c.in-Some-shortest.rule) b refl c.in-Some-shortest.ensures.member refl c.chosen-bit.ensures in
+    let fixed : bit loose either.place ≡ true → bit lower either.place ≡ true =
+    λ on.
+    elim c.else-bit-loose-ne0.branch [
+      | else-bit-loose-ne0-via-then-bit-loose-ne0+else-bit-lower-eq0 w ↦
+          lies_in (bit_or rest loose) b either lower w.if-bit-lower-eq0.false
+      | else-bit-loose-ne0-via-else-bit-loose-ne0 w ↦
+          absurd (both_ways (bit loose either.place) (lies_out (bit_or rest loose) b either loose w.if-bit-loose-ne0.false) on)
+    ] in
+    let one = rest_of lower set small rest loose b fit either fixed in
     let less = rest_less rest b one in
+    let no_more = without_le rest b one loose in
     let start = c.decreases in
-    let whole = whole_with set rest b c.requires.apart one in
+    let next = fit_without lower set small rest loose b fit one in
+    let whole = whole_without set rest b c.requires.apart one in
     let inside = c.requires.inside in
-    let long = c.in_ok-strike.ensures.long in
-    (omega arith, (apart_with set rest b c.requires.apart one, (part_without set c.args.small b c.requires.part, omega arith)))
+    (omega arith, (next.apart, (next.part, (next.free, (next.within, (next.settled, omega arith))))))
 
 pub strike-requires-3 : goal.strike-requires-3
 strike-requires-3 t c =
+    let lower = c.args.lower in
     let set = c.args.set in
+    let small = c.args.small in
     let rest = c.args.rest in
-    let b = c.first_bit-bit.result in
+    let loose = c.args.loose in
+    let b = c.chosen-bit.result in
+    let kept = c.as_slice-kept.result.now in
     let whole_left = rw c.in-Some.is at c.in_ok-left.ensures.whole in
-    let one = one_open c.args.rules.now c.in-Some.left.items c.args.lower set c.args.small rest whole_left.members c.in-Some-shortest.rule
-    c.as_slice.result.now c.atoms.result b c.as_slice.ensures.value c.in-Some-shortest.ensures.member c.atoms.ensures
-    c.first_bit-bit.ensures in
+    let members = same_list kept c.in-Some.left.items (left_of set small rest loose c.args.rules.now) c.as_slice-kept.ensures.value
+    whole_left.members in
+    let fit = fit_of lower set small rest loose c.requires.apart c.requires.part c.requires.free c.requires.within
+    c.requires.settled in
+    let either = one_open c.args.rules.now kept lower set small rest loose members c.in-Some-shortest.rule kept
+    (rule_atoms c.in-Some-shortest.rule) b refl c.in-Some-shortest.ensures.member refl c.chosen-bit.ensures in
+    let fixed : bit loose either.place ≡ true → bit lower either.place ≡ true =
+    λ on.
+    elim c.else-bit-loose-ne0.branch [
+      | else-bit-loose-ne0-via-then-bit-loose-ne0+else-bit-lower-eq0 w ↦
+          lies_in (bit_or rest loose) b either lower w.if-bit-lower-eq0.false
+      | else-bit-loose-ne0-via-else-bit-loose-ne0 w ↦
+          absurd (both_ways (bit loose either.place) (lies_out (bit_or rest loose) b either loose w.if-bit-loose-ne0.false) on)
+    ] in
+    let one = rest_of lower set small rest loose b fit either fixed in
     let less = rest_less rest b one in
+    let no_more = without_le rest b one loose in
     let start = c.decreases in
+    let next = fit_with lower set small rest loose b fit one in
     let whole = whole_with set rest b c.requires.apart one in
     let inside = c.requires.inside in
-    let long = c.in_ok-strike.ensures.long in
-    let longer = c.in_ok-strike-2.ensures.long in
-    (omega arith, (apart_with set rest b c.requires.apart one, (part_with set c.args.small b c.requires.part, omega arith)))
-
-pub returns-then-bit-lower-ne0 : goal.returns-then-bit-lower-ne0
-returns-then-bit-lower-ne0 t c =
-    let set = c.args.set in
-    let rest = c.args.rest in
-    let b = c.first_bit-bit.result in
-    let whole_left = rw c.in-Some.is at c.in_ok-left.ensures.whole in
-    let one = one_open c.args.rules.now c.in-Some.left.items c.args.lower set c.args.small rest whole_left.members c.in-Some-shortest.rule
-    c.as_slice.result.now c.atoms.result b c.as_slice.ensures.value c.in-Some-shortest.ensures.member c.atoms.ensures
-    c.first_bit-bit.ensures in
-    let small = c.args.small in
-    let lower = c.args.lower in
-    let open_left = bit_xor rest b in
-    on_ok_weaker c.strike-then-bit-lower-ne0.result (λ sifted.
-    struck_fixed c.args.rules.now c.in-Some.left.items lower set small rest whole_left.members b c.requires.apart one c.args.table.now
-    c.strike.new.table c.strike-then-bit-lower-ne0.new.table (lies_in rest b one lower c.if-bit-lower-ne0.true)
-    (subst (λ (rs : List MaskedRule). Sifted set open_left (λ s. not (is_beaten rs lower small open_left s)) c.args.table.now c.strike.new.table)
-    c.as_slice-2.ensures.value c.in_ok-strike.ensures)
-    (subst (λ (rs : List MaskedRule). Sifted (bit_or set b) open_left (λ s. not (is_beaten rs lower (bit_or small b) open_left s)) c.strike.new.table c.strike-then-bit-lower-ne0.new.table)
-    c.as_slice-then-bit-lower-ne0.ensures.value sifted))
-    c.strike-then-bit-lower-ne0.ensures
+    let long = c.in_ok-strike-2.ensures.long in
+    (omega arith, (next.apart, (next.part, (next.free, (next.within, (next.settled, omega arith))))))
 
 pub returns : goal.returns
 returns t c =
-    let set = c.args.set in
-    let rest = c.args.rest in
-    let b = c.first_bit-bit.result in
-    let whole_left = rw c.in-Some.is at c.in_ok-left.ensures.whole in
-    let one = one_open c.args.rules.now c.in-Some.left.items c.args.lower set c.args.small rest whole_left.members c.in-Some-shortest.rule
-    c.as_slice.result.now c.atoms.result b c.as_slice.ensures.value c.in-Some-shortest.ensures.member c.atoms.ensures
-    c.first_bit-bit.ensures in
-    let small = c.args.small in
     let lower = c.args.lower in
-    let open_left = bit_xor rest b in
-    on_ok_weaker c.strike-3.result (λ sifted.
-    struck c.args.rules.now c.in-Some.left.items lower set small rest whole_left.members b c.requires.apart one c.args.table.now
-    c.strike.new.table c.strike-2.new.table c.strike-3.new.table (lies_out rest b one lower c.if-bit-lower-ne0.false)
-    (subst (λ (rs : List MaskedRule). Sifted set open_left (λ s. not (is_beaten rs lower small open_left s)) c.args.table.now c.strike.new.table)
-    c.as_slice-2.ensures.value c.in_ok-strike.ensures)
-    (subst (λ (rs : List MaskedRule). Sifted (bit_or set b) open_left (λ s. not (is_beaten rs lower small open_left s)) c.strike.new.table c.strike-2.new.table)
-    c.as_slice-3.ensures.value c.in_ok-strike-2.ensures)
-    (subst (λ (rs : List MaskedRule). Sifted (bit_or set b) open_left (λ s. not (is_beaten rs lower (bit_or small b) open_left s)) c.strike-2.new.table c.strike-3.new.table)
-    c.as_slice-4.ensures.value sifted))
+    let set = c.args.set in
+    let small = c.args.small in
+    let rest = c.args.rest in
+    let loose = c.args.loose in
+    let b = c.chosen-bit.result in
+    let kept = c.as_slice-kept.result.now in
+    let whole_left = rw c.in-Some.is at c.in_ok-left.ensures.whole in
+    let members = same_list kept c.in-Some.left.items (left_of set small rest loose c.args.rules.now) c.as_slice-kept.ensures.value
+    whole_left.members in
+    let fit = fit_of lower set small rest loose c.requires.apart c.requires.part c.requires.free c.requires.within
+    c.requires.settled in
+    let either = one_open c.args.rules.now kept lower set small rest loose members c.in-Some-shortest.rule kept
+    (rule_atoms c.in-Some-shortest.rule) b refl c.in-Some-shortest.ensures.member refl c.chosen-bit.ensures in
+    let fixed : bit loose either.place ≡ true → bit lower either.place ≡ true =
+    λ on.
+    elim c.else-bit-loose-ne0.branch [
+      | else-bit-loose-ne0-via-then-bit-loose-ne0+else-bit-lower-eq0 w ↦
+          lies_in (bit_or rest loose) b either lower w.if-bit-lower-eq0.false
+      | else-bit-loose-ne0-via-else-bit-loose-ne0 w ↦
+          absurd (both_ways (bit loose either.place) (lies_out (bit_or rest loose) b either loose w.if-bit-loose-ne0.false) on)
+    ] in
+    let one = rest_of lower set small rest loose b fit either fixed in
+    on_ok_weaker c.strike-3.result
+    (struck c.args.rules.now kept lower set small rest loose members fit b one fixed c.args.table.now c.strike-2.new.table
+    c.strike-3.new.table c.in_ok-strike-2.ensures)
     c.strike-3.ensures

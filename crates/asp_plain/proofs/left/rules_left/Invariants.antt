@@ -6,5 +6,5 @@ use Rattle.asp_plain.proofs.left.rules_left.Given as goal
 
 -- what is left of the rules so far, each with an atom
 abbrev pub invariant-loop-rule : goal.invariant-loop-rule
-invariant-loop-rule l = (l.left.items ≡ left_of l.set l.small l.rest (take l.rule-index l.rules))
+invariant-loop-rule l = (l.left.items ≡ left_of l.set l.small l.rest l.loose (take l.rule-index l.rules))
     × (list_all (λ (rule : MaskedRule). not (is_bare rule)) l.left.items ≡ true)
