@@ -92,6 +92,9 @@ def texts():
         subsets_broken(14, 0) + [choice(atom, 1) for atom in range(14, 20)], [":- a."])
     yield "the same, but for sets with one more atom, which asks for them", text(
         [choice(atom) for atom in range(15, 20)] + [choice(atom, bit(14)) for atom in range(14)] + subsets_broken(14, bit(14)), NEVER)
+    others_ask = [choice(atom, bit(14)) for atom in everything if atom != 14]
+    yield "the same, all other atoms asking for it, and five of them in a disjunction", text(
+        others_ask + [rule(mask(range(15, 20)))] + subsets_broken(14, bit(14)), NEVER)
 
     free = ["{" + ";".join(LETTERS[:8]) + "}."]
     inner = [rule(some(source, 4, range(8, 20)), some(source, 1, range(8))) for _ in range(5_000)]
