@@ -26,12 +26,12 @@ abbrev Distinct : {A : Type 0} → List A → Type 0
 Distinct [] = Unit {0}
 Distinct (x ∷ xs) = (IsIn x xs → ⊥) × Distinct xs
 
-record Split {A : Type 0} (x : A) (ys : List A) : Type 0 where
-  front : List A
-  back : List A
-  whole : ys ≡ front ++ (x ∷ back)
+pub record Split {A : Type 0} (x : A) (ys : List A) : Type 0 where
+  pub front : List A
+  pub back : List A
+  pub whole : ys ≡ front ++ (x ∷ back)
 
-split : {A : Type 0} (x : A) (ys : List A) → IsIn x ys → Split x ys
+pub split : {A : Type 0} (x : A) (ys : List A) → IsIn x ys → Split x ys
 split x [] i = absurd i
 split {A} x (y ∷ ys) (inl e) = record { front = []; back = ys; whole = ap (λ (z : A). z ∷ ys) (sym e) }
 split {A} x (y ∷ ys) (inr i) =
@@ -57,7 +57,7 @@ pigeonhole {A} (x ∷ xs) ys d h =
 
 -- ---- subsets
 
-empty-subset : (B : List ℕ) → IsIn [] (subsets B)
+pub empty-subset : (B : List ℕ) → IsIn [] (subsets B)
 empty-subset [] = inl refl
 empty-subset (b ∷ B) = append_left (subsets B) (map (λ J. b ∷ J) (subsets B)) [] (empty-subset B)
 
@@ -111,7 +111,7 @@ length-subsets (b ∷ B) =
 
 -- ---- formed entries of a valid game
 
-valid-base : (lists : List (List ℕ)) (i : ℕ) → list_all ascends lists ≡ true → ascends (get_or lists i []) ≡ true
+pub valid-base : (lists : List (List ℕ)) (i : ℕ) → list_all ascends lists ≡ true → ascends (get_or lists i []) ≡ true
 valid-base [] i h = refl
 valid-base (B ∷ lists) zero h = (both (ascends B) (list_all ascends lists) h).0
 valid-base (B ∷ lists) (suc i) h = valid-base lists i ((both (ascends B) (list_all ascends lists) h).1)

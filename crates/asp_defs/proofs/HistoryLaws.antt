@@ -1,5 +1,5 @@
 -- Justifications stay and are sound, so that every entry of a legal history is sound, and so is each of its prefixes.
-use Rattle.std.proofs.Common.{ℕ, zero, suc, ◌+◌, ◌-◌, ◌≤◌, ◌≡◌, refl, sym, ◌∙◌, ap, subst, inl, inr, Bool, true, false, not, ◌&&◌, List, [], ◌∷◌, ◌++◌, map, drop, arith, nat_le}
+use Rattle.std.proofs.Common.{ℕ, zero, suc, ◌+◌, ◌-◌, ◌≤◌, ◌≡◌, refl, sym, ◌∙◌, ap, subst, inl, inr, Bool, true, false, not, ◌&&◌, List, [], ◌∷◌, ◌++◌, map, drop, arith, nat_le, append_assoc, append-nil}
 use Rattle.std.specs.Prelude.{◌==◌}
 use Rattle.std.specs.List.{list_any, list_all}
 use Rattle.std.proofs.lemmas.Bool.{eqb-true, leb-true}
@@ -12,7 +12,7 @@ use Rattle.asp_defs.specs.AnswerSets.{is_answer_set}
 use Rattle.asp_defs.specs.Games.{level_count, base, rules_of, is_subset}
 use Rattle.asp_defs.specs.Values.{fix, moves, claims, value_from, value}
 use Rattle.asp_defs.specs.Entries.{Entry, cube_holds, held_moves, stands_from, is_entry, winning}
-use Rattle.asp_defs.specs.History.{agrees, is_held, is_held_with, is_justified_at, is_justified, is_sound, may_follow}
+use Rattle.asp_defs.specs.History.{agrees, is_held, is_held_with, is_justified_at, is_justified, is_sound, may_follow, is_legal}
 use Rattle.asp_defs.specs.Laws.{JustificationsStay, JustifiedIsSound, LegalIsSound, PrefixesAreLegal}
 use Rattle.asp_defs.proofs.Lists.{both, and_true, true_or_false, not_true, not_false, all_at, all_from, any_at, any_from, filter_at, filter_from, append_at, append_left}
 
@@ -205,3 +205,31 @@ follow-prefix g before (e ∷ H) more h =
 
 pub prefixes_are_legal : PrefixesAreLegal
 prefixes_are_legal g H more h = follow-prefix g [] H more h
+
+-- ---- one more entry
+
+follow-one_more : (g : Game) (before H : List Entry) (e : Entry) → may_follow g before H ≡ true → is_entry g e ≡ true → is_justified g (before ++ H) e ≡ true → is_held (before ++ H) e.level e.seed ≡ false → may_follow g before (H ++ (e ∷ [])) ≡ true
+follow-one_more g before [] e h formed justified fresh =
+    let none : before ++ [] ≡ before = append-nil before in
+    follows_from g before e []
+    (record {
+      formed = formed;
+      justified = subst (λ (K : List Entry). is_justified g K e ≡ true) none justified;
+      fresh = not_false _ (subst (λ (K : List Entry). is_held K e.level e.seed ≡ false) none fresh);
+      rest = refl;
+    })
+follow-one_more g before (d ∷ H) e h formed justified fresh =
+    let f = follows_at g before d H h in
+    let regroup : before ++ (d ∷ H) ≡ (before ++ (d ∷ [])) ++ H = sym (append_assoc before (d ∷ []) H) in
+    follows_from g before d (H ++ (e ∷ []))
+    (record {
+      formed = f.formed;
+      justified = f.justified;
+      fresh = f.fresh;
+      rest = follow-one_more g (before ++ (d ∷ [])) H e f.rest formed
+          (subst (λ (K : List Entry). is_justified g K e ≡ true) regroup justified)
+          (subst (λ (K : List Entry). is_held K e.level e.seed ≡ false) regroup fresh);
+    })
+
+pub legal-one_more : (g : Game) (H : List Entry) (e : Entry) → is_legal g H ≡ true → is_entry g e ≡ true → is_justified g H e ≡ true → is_held H e.level e.seed ≡ false → is_legal g (H ++ (e ∷ [])) ≡ true
+legal-one_more g H e legal formed justified fresh = follow-one_more g [] H e legal formed justified fresh

@@ -4,6 +4,12 @@ pub mod AnswerSetLaws
 pub mod FoundedLaws
 pub mod HistoryLaws
 pub mod CellLaws
+pub mod Fixing
+pub mod Irrelevance
+pub mod LastLevel
+pub mod ShownLaws
+pub mod SubsetLaws
+pub mod MachineLaws
 pub mod TextReadings
 pub mod TextRefutations
 pub mod TextFaults

@@ -22,7 +22,7 @@ abbrev Within : List Term → List Term → Type 0
 Within vs ws = (v : Term) → IsIn v vs → IsIn v ws
 
 -- a variable of a term is the same as itself, and variables that are the same are equal
-itself : (t v : Term) → IsIn v (term_variables t) → same_variable v v ≡ true
+pub itself : (t v : Term) → IsIn v (term_variables t) → same_variable v v ≡ true
 itself (Int x) v i = absurd i
 itself (Sym s) v i = absurd i
 itself (Var n) v (inl e) = subst (λ w. same_variable w w ≡ true) (sym e) ((bytes_decides n n).1 refl)
@@ -31,7 +31,7 @@ itself (Anon k) v (inl e) = subst (λ w. same_variable w w ≡ true) (sym e) (eq
 itself (Anon k) v (inr i) = absurd i
 itself (Range low high) v i = absurd i
 
-equal : (v w : Term) → same_variable v w ≡ true → v ≡ w
+pub equal : (v w : Term) → same_variable v w ≡ true → v ≡ w
 equal (Var n) (Var m) h = ap Var ((bytes_decides n m).0 h)
 equal (Anon j) (Anon k) h = ap Anon (eqb-true j k h)
 equal v w h = clash h
@@ -70,13 +70,13 @@ settled_at S t h v i =
     subst (λ w. IsIn w S) (sym (equal v found.0 found.2)) found.1
 
 -- the variables that a side brings
-brought : (S : List Term) (x y v : Term) → IsIn v (settled_by S x y) → (is_settled S y ≡ true) × IsIn v (term_variables x)
+pub brought : (S : List Term) (x y v : Term) → IsIn v (settled_by S x y) → (is_settled S y ≡ true) × IsIn v (term_variables x)
 brought S x y v i = elim (true_or_false (is_settled S y)) [
   | inl h ↦ (h, subst (λ (b : Bool). IsIn v (cond b (term_variables x) [])) h i)
   | inr h ↦ absurd (subst (λ (b : Bool). IsIn v (cond b (term_variables x) [])) h i)
 ]
 
-brings : (S : List Term) (x y v : Term) → is_settled S y ≡ true → IsIn v (term_variables x) → IsIn v (settled_by S x y)
+pub brings : (S : List Term) (x y v : Term) → is_settled S y ≡ true → IsIn v (term_variables x) → IsIn v (settled_by S x y)
 brings S x y v h i = subst (λ (b : Bool). IsIn v (cond b (term_variables x) [])) (sym h) i
 
 side_more : (S T : List Term) → Within S T → (x y : Term) → Within (settled_by S x y) (settled_by T x y)

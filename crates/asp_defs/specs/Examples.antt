@@ -1,7 +1,7 @@
 -- Small programs, each written above as a text, for the worked examples of the definitions. All are transparent.
 use Rattle.std.specs.Prelude.{ℕ, pos, negsuc, Bool, true, false, List, [], ◌∷◌, codes}
 use Rattle.asp_defs.specs.declared.syntax.Quant.TheVariants.{Exists, Forall}
-use Rattle.asp_defs.specs.declared.syntax.Op.TheVariants.{Gt, Ne}
+use Rattle.asp_defs.specs.declared.syntax.Op.TheVariants.{Eq, Gt, Ne}
 use Rattle.asp_defs.specs.declared.syntax.Term.{Term}
 use Rattle.asp_defs.specs.declared.syntax.Term.TheVariants.{Int, Sym, Var, Anon, Range}
 use Rattle.asp_defs.specs.declared.syntax.Atom.{Atom}
@@ -13,7 +13,11 @@ use Rattle.asp_defs.specs.declared.syntax.Rule.{Rule}
 use Rattle.asp_defs.specs.declared.syntax.Part.{Part}
 use Rattle.asp_defs.specs.declared.syntax.Program.{Program}
 use Rattle.asp_defs.specs.declared.ground.Lit.{Lit}
+use Rattle.asp_defs.specs.declared.faults.Kind.{Kind}
+use Rattle.asp_defs.specs.declared.faults.Unknown.{Unknown}
+use Rattle.asp_defs.specs.Games.{game_of}
 use Rattle.asp_defs.specs.Entries.{Entry}
+use Rattle.asp_defs.specs.Unknowns.{Evidence}
 
 -- an atom with its arguments, and one without
 abbrev pub atom : List ℕ → List Term → Atom
@@ -146,6 +150,46 @@ contradiction = program (exists (choice (element a [] ∷ []) [] ∷ []) ∷ [])
 abbrev pub nothing : Program
 nothing = program (exists [] ∷ []) []
 
+-- exists: {a}. forall: {c}. constraints: :- c, not a.
+abbrev pub duel : Program
+duel = program (exists (choice (element a [] ∷ []) [] ∷ []) ∷ forall (choice (element c [] ∷ []) [] ∷ []) ∷ []) (denial (Pos c ∷ Neg a ∷ []) ∷ [])
+
+-- exists: e(1,2). r :- e(_,_).
+abbrev pub two_nameless : Program
+two_nameless = program (exists (rule (atom (codes "e") (int 1 ∷ int 2 ∷ []) ∷ []) [] ∷ rule (prop (codes "r") ∷ []) (Pos (atom (codes "e") (Anon 1 ∷ Anon 2 ∷ [])) ∷ []) ∷ []) ∷ []) []
+
+-- exists: pa. p(b,1). p. p(1).
+abbrev pub order_of_atoms : Program
+order_of_atoms = program (exists (rule (prop (codes "pa") ∷ []) [] ∷ rule (atom (codes "p") (Sym (codes "b") ∷ int 1 ∷ []) ∷ []) [] ∷ rule (prop (codes "p") ∷ []) [] ∷ rule (at (codes "p") (int 1) ∷ []) [] ∷ []) ∷ []) []
+
+-- exists: m(1). n(1). {a : m(X)} :- n(X), not b.
+abbrev pub body_and_condition : Program
+body_and_condition = program (exists (rule (at (codes "m") (int 1) ∷ []) [] ∷ rule (at (codes "n") (int 1) ∷ []) [] ∷ choice (element a (Pos (at (codes "m") x) ∷ []) ∷ []) (Pos (at (codes "n") x) ∷ Neg b ∷ []) ∷ []) ∷ []) []
+
+-- {p(Z) : m(Y)} :- n(X,Y).
+abbrev pub three_variables : Rule
+three_variables = choice (element (at (codes "p") (Var (codes "Z"))) (Pos (at (codes "m") (Var (codes "Y"))) ∷ []) ∷ []) (Pos (atom (codes "n") (x ∷ Var (codes "Y") ∷ [])) ∷ [])
+
+-- exists: e(1..2,2..3).
+abbrev pub two_intervals : Program
+two_intervals = program (exists (rule (atom (codes "e") (Range (pos 1) (pos 2) ∷ Range (pos 2) (pos 3) ∷ []) ∷ []) [] ∷ []) ∷ []) []
+
+-- exists: {p : q(1)} :- not r(2), 3 != 4.
+abbrev pub written_places : Program
+written_places = program (exists (choice (element (prop (codes "p")) (Pos (at (codes "q") (int 1)) ∷ []) ∷ []) (Neg (at (codes "r") (int 2)) ∷ Cmp (int 3) Ne (int 4) ∷ []) ∷ []) ∷ []) []
+
+-- exists: n(1). {p(X)} :- n(X). exists: n(2).
+abbrev pub later_constant : Program
+later_constant = program (exists (rule (at (codes "n") (int 1) ∷ []) [] ∷ choice (element (at (codes "p") x) [] ∷ []) (Pos (at (codes "n") x) ∷ []) ∷ []) ∷ exists (rule (at (codes "n") (int 2) ∷ []) [] ∷ []) ∷ []) []
+
+-- exists: a :- X = 1.
+abbrev pub equated : Program
+equated = program (exists (rule (a ∷ []) (Cmp x Eq (int 1) ∷ []) ∷ []) ∷ []) []
+
+-- p(Y) :- n(X,Y).
+abbrev pub two_variables_rule : Rule
+two_variables_rule = rule (at (codes "p") (Var (codes "Y")) ∷ []) (Pos (atom (codes "n") (x ∷ Var (codes "Y") ∷ [])) ∷ [])
+
 -- ---- histories
 
 abbrev pub literal : ℕ → Bool → Lit
@@ -166,3 +210,40 @@ refuted =
 -- the same with one choice left out
 abbrev pub half_refuted : List Entry
 half_refuted = entry 2 (literal 0 true ∷ []) false (0 ∷ []) ∷ entry 1 [] false [] ∷ []
+
+-- the duel: the first level is won by one of its two moves, after which each of the second level's moves is won
+abbrev pub duel_won : List Entry
+duel_won =
+    entry 3 (literal 0 true ∷ []) true (0 ∷ []) ∷ entry 2 (literal 0 true ∷ []) true (0 ∷ []) ∷ entry 1 [] true [] ∷ []
+
+-- the same, where one of the second level's two moves isn't held
+abbrev pub duel_half_won : List Entry
+duel_half_won =
+    entry 3 (literal 0 true ∷ literal 1 false ∷ []) true (0 ∷ []) ∷ entry 2 (literal 0 true ∷ []) true (0 ∷ []) ∷ []
+
+-- after the other move one of the second level's moves is enough to refute it
+abbrev pub duel_refuted : List Entry
+duel_refuted = entry 3 (literal 0 false ∷ literal 1 true ∷ []) false (1 ∷ []) ∷ entry 2 (literal 0 false ∷ []) false [] ∷ []
+
+-- minimax, where b stands in a rule of the first level alone: the second level is won after a and b, by a cube with these
+-- literals
+abbrev pub minimax_won : List Lit → List Entry
+minimax_won cube = entry 3 (literal 0 true ∷ []) true (0 ∷ []) ∷ entry 2 cube true (0 ∷ 1 ∷ []) ∷ []
+
+-- ---- open answers
+
+abbrev pub unknown : Kind → ℕ → ℕ → Unknown
+unknown kind level budget = record { kind = kind; level = level; budget = budget }
+
+-- what a run that solved the duel with these cells is left with: a search was spent once at level 1, a check at level 2, and
+-- the store refused two entries of level 2
+abbrev pub evidence : List Entry → ℕ → Evidence
+evidence history allowed = record {
+  game = game_of duel;
+  budget = 2;
+  allowed = allowed;
+  history = history;
+  searches = 1 ∷ 0 ∷ [];
+  checks = 0 ∷ 1 ∷ [];
+  refusals = 0 ∷ 2 ∷ 0 ∷ [];
+}

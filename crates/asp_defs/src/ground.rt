@@ -66,7 +66,7 @@ pub struct Game {
 }
 
 /// A literal over numbered atoms: the atom, or its negation.
-#[derive(Debug, Clone, Copy, PartialEq, Eq)]
+#[derive(Debug, Clone, Copy, Default, PartialEq, Eq)]
 pub struct Lit {
     pub atom: u32,
     pub positive: bool,

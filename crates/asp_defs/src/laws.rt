@@ -1,5 +1,5 @@
 //! Laws of the definitions: each contract is one, and each body is empty.
-ghost use Rattle.asp_defs.specs.Laws.{AnswerSetsAreModels, AnswerSetsAreMinimal, AnswerSetsAreFounded, JustificationsStay, JustifiedIsSound, LegalIsSound, PrefixesAreLegal, CellsAreBounded};
+ghost use Rattle.asp_defs.specs.Laws.{AnswerSetsAreModels, AnswerSetsAreMinimal, AnswerSetsAreFounded, JustificationsStay, JustifiedIsSound, LegalIsSound, PrefixesAreLegal, CellsAreBounded, MovesAgree, ConstraintsDecide, ValuesRestOnRules, MovesAreShown, ValuesAreShown, SubsetsAreListed, SubsetsAreInOrder, NoSetIsAfterItself, SetsAreOrdered, RunsStayLegal, StepsKeepWhatWasSeen};
 
 /// An answer set satisfies the rules.
 pub fn answer_sets_are_models()
@@ -40,4 +40,49 @@ pub fn prefixes_are_legal()
 /// The cells of a legal history of a valid game are at most those that are enough.
 pub fn cells_are_bounded()
     ensures { CellsAreBounded }
+{}
+
+/// Each move of a level agrees with the outer move on the base below the level.
+pub fn moves_agree()
+    ensures { MovesAgree }
+{}
+
+/// Behind the last level the value of an outer move is that it breaks no constraint.
+pub fn constraints_decide()
+    ensures { ConstraintsDecide }
+{}
+
+/// Outer moves that agree on the atoms that stand in a rule of their level or of a later one have the same value.
+pub fn values_rest_on_rules()
+    ensures { ValuesRestOnRules }
+{}
+
+/// For each outer move of each level of a valid game there is a legal history that holds it with its value, and for the game
+/// one whose last entry is of level 1 and has the game's value.
+pub fn values_are_shown()
+    ensures moves { MovesAreShown }
+    ensures game { ValuesAreShown }
+{}
+
+/// The subsets of a base are the lists that the test of subsets accepts, each once, in the order of interpretations.
+pub fn subsets_are_listed()
+    ensures members { SubsetsAreListed }
+    ensures order { SubsetsAreInOrder }
+    ensures once { NoSetIsAfterItself }
+{}
+
+/// A set comes after another exactly where the first atom on which they differ is in it.
+pub fn sets_are_ordered()
+    ensures { SetsAreOrdered }
+{}
+
+/// In every state that the core machine reaches the history is legal and within the cells, and each member has seen a
+/// prefix of it.
+pub fn runs_stay_legal()
+    ensures { RunsStayLegal }
+{}
+
+/// A step of the core machine takes nothing away of the history and of what each member has seen.
+pub fn steps_keep_what_was_seen()
+    ensures { StepsKeepWhatWasSeen }
 {}
