@@ -23,7 +23,7 @@ use Rattle.asp_atoms.specs.Counts.{shown}
 use Rattle.asp_atoms.specs.Answers.{base_too_large}
 use Rattle.asp_atoms.proofs.Orders.{predicate_lawful}
 use Rattle.asp_atoms.proofs.Ascending.{in_distinct}
-use Rattle.asp_atoms.proofs.Writing.{rules_predicates_are}
+use Rattle.asp_walk.proofs.Reading.{rules_predicates_are}
 
 -- ---- sums that end at the greatest number shown
 
@@ -93,12 +93,15 @@ max_member a [] x i = absurd i
 max_member a (y ∷ ys) x (inl e) = let h = max_start (max a y) ys in omega (arith, h, e)
 max_member a (y ∷ ys) x (inr i) = max_member (max a y) ys x i
 
-most_within : (p : Program) → IsTrue (is_checked p) → most_arguments p ≤ 16
-most_within p h =
+pub not_large : (p : Program) → IsTrue (is_checked p) → too_large_in p ≡ None
+not_large p h =
     let none = no_one (check_refusal p) h in
     let sized = second_none (form_refusal p) (size_refusal p) (second_none (safety_refusal p) (option_or (form_refusal p) (size_refusal p)) none) in
-    let large : too_large_in p ≡ None = unmapped _ (too_large_in p) sized in
-    let arguments : past_limit Arguments (most_arguments p) ≡ None = first_none _ _ (second_none _ _ large) in
+    unmapped _ (too_large_in p) sized
+
+most_within : (p : Program) → IsTrue (is_checked p) → most_arguments p ≤ 16
+most_within p h =
+    let arguments : past_limit Arguments (most_arguments p) ≡ None = first_none _ _ (second_none _ _ (not_large p h)) in
     within_limit Arguments (most_arguments p) arguments
 
 pub levels_long : (p : Program) → length (level_rules p) ≡ last_level p

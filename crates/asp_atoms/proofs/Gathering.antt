@@ -163,16 +163,17 @@ last_predicates p g n x h e is = last_of (λ (s : Vec Signature Global). predica
 
 -- ---- the vocabulary
 
-abbrev made : List Const → List (List ℕ) → List Predicate → Vocabulary
-made constants universes qs = record { constants = constants; universes = universes; predicates = numbered_from (length constants) 0 qs }
+abbrev made : List Const → List (List ℕ) → List Predicate → ℕ → Vocabulary
+made constants universes qs atoms = record { constants = constants; universes = universes; predicates = numbered_from (length constants) 0 qs; atoms = atoms }
 
-pub same_vocabulary : (p : Program) (constants : List Const) (universes : List (List Const)) (qs : List Predicate) → constants ≡ universe p (last_level p) → universes ≡ map (universe p) (numbers_from 0 (last_level p + 1)) → qs ≡ predicates p (last_level p) → vocabulary_from constants universes qs ≡ vocabulary_of p
-same_vocabulary p constants universes qs ce ue qe =
-    ap (λ us. vocabulary_from us universes qs) ce
-    ∙ (ap (λ us. vocabulary_from (universe p (last_level p)) us qs) ue
-    ∙ (ap (vocabulary_from (universe p (last_level p)) (map (universe p) (numbers_from 0 (last_level p + 1)))) qe
-    ∙ ap (λ us. made (universe p (last_level p)) us (predicates p (last_level p)))
-    (map_map (map (const_rank (universe p (last_level p)))) (universe p) (numbers_from 0 (last_level p + 1)))))
+pub same_vocabulary : (p : Program) (constants : List Const) (universes : List (List Const)) (qs : List Predicate) (atoms : ℕ) → constants ≡ universe p (last_level p) → universes ≡ map (universe p) (numbers_from 0 (last_level p + 1)) → qs ≡ predicates p (last_level p) → atoms ≡ atom_total p → vocabulary_from constants universes qs atoms ≡ vocabulary_of p
+same_vocabulary p constants universes qs atoms ce ue qe ae =
+    ap (λ us. vocabulary_from us universes qs atoms) ce
+    ∙ (ap (λ us. vocabulary_from (universe p (last_level p)) us qs atoms) ue
+    ∙ (ap (λ ps. vocabulary_from (universe p (last_level p)) (map (universe p) (numbers_from 0 (last_level p + 1))) ps atoms) qe
+    ∙ (ap (vocabulary_from (universe p (last_level p)) (map (universe p) (numbers_from 0 (last_level p + 1))) (predicates p (last_level p))) ae
+    ∙ ap (λ us. made (universe p (last_level p)) us (predicates p (last_level p)) (atom_total p))
+    (map_map (map (const_rank (universe p (last_level p)))) (universe p) (numbers_from 0 (last_level p + 1))))))
 
 -- ---- what the bases need
 

@@ -3,7 +3,6 @@ pub mod Ascending
 pub mod Positions
 pub mod Settled
 pub mod Integers
-pub mod Writing
 pub mod Mixing
 pub mod Levels
 pub mod Tupling
@@ -15,4 +14,3 @@ pub mod Comparing
 pub mod Loops
 pub mod Gathering
 pub mod Ties
-mod Drafts

@@ -1,6 +1,6 @@
 -- Steps of the code, over plain values.
 use Rattle.std.proofs.Common.{ℕ, zero, suc, ◌≡◌, ◌+◌, ◌*◌, ◌^◌, ◌<◌, ◌≤◌, sym, ◌∙◌, ap, subst, inl, inr, Bool, false, cond, List, [], ◌∷◌, ◌++◌, map, length, get_or, take, drop, arith, length-append, append_assoc, append-nil, pow-suc, mul-zero, mul-le-mul_right, suc-mul, mul_comm, Fits, w32, Result, Ok, Err, Some, None, Option, is_ok, is_some, ℤ, pos, ◌+ℤ◌, ◌≤ℤ◌, ◌<ℤ◌, int_lt}
-use Rattle.std.specs.Prelude.{position, IfOk}
+use Rattle.std.specs.Prelude.{position}
 use Rattle.std.specs.List.{flat_map, sum_by}
 use Rattle.std.specs.Int.{int_max}
 use Rattle.std.specs.Ordering.{is_eq}
@@ -202,9 +202,3 @@ levels_more all base qs us pss at u ps out new n h g e f so_far is pushed =
     ∙ (append_assoc out (n ∷ []) (levels_numbers base qs (drop (at + 1) us) (drop (at + 1) pss))
     ∙ (ap (λ m. out ++ m ∷ levels_numbers base qs (drop (at + 1) us) (drop (at + 1) pss)) is
     ∙ (ap (λ l. out ++ l) (sym split) ∙ so_far)))
-
--- ---- answers
-
-pub if_ok : {T E : Type 0} (r : Result T E) (P Q : T → Type 0) → IfOk r P → ((x : T) → P x → Q x) → IfOk r Q
-if_ok (Ok x) P Q h f = f x h
-if_ok (Err e) P Q h f = h

@@ -16,12 +16,12 @@ use Rattle.asp_defs.specs.Constants.{const_cmp, distinct, integers_from, interva
 use Rattle.asp_defs.proofs.Lists.{append_at, append_left, append_right, map_at, map_from}
 use Rattle.asp_atoms.specs.declared.intervals.Interval.{Interval}
 use Rattle.asp_atoms.specs.Ascending.{Ascends}
-use Rattle.asp_atoms.specs.Written.{rule_terms}
+use Rattle.asp_walk.specs.Written.{rule_terms}
 use Rattle.asp_atoms.specs.Universes.{integers, integers_of, term_intervals, term_symbols, as_constants}
 use Rattle.asp_atoms.proofs.Orders.{int_lawful, bytes_lawful, const_lawful}
 use Rattle.asp_atoms.proofs.Ascending.{SameMembers, ascends_distinct, ascends_append, ascends_map, distinct_is, in_distinct, distinct_from}
 use Rattle.asp_atoms.proofs.Integers.{ends}
-use Rattle.asp_atoms.proofs.Writing.{rules_constants_are}
+use Rattle.asp_walk.proofs.Reading.{rules_constants_are}
 
 -- ---- members of integers and symbols
 

@@ -1,7 +1,6 @@
 pub mod Ascending
 pub mod Keys
 pub mod Counts
-pub mod Written
 pub mod Universes
 pub mod Gaps
 pub mod Signatures

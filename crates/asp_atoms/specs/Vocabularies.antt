@@ -5,6 +5,7 @@ use Rattle.asp_defs.specs.declared.syntax.Program.{Program}
 use Rattle.asp_defs.specs.Constants.{const_cmp, universe}
 use Rattle.asp_defs.specs.Bases.{Predicate, predicates, last_level}
 use Rattle.asp_defs.specs.Lists.{numbers_from}
+use Rattle.asp_defs.specs.Sizes.{atom_total}
 use Rattle.asp_atoms.specs.declared.vocabularies.NumberedPredicate.{NumberedPredicate}
 use Rattle.asp_atoms.specs.declared.vocabularies.Vocabulary.{Vocabulary}
 use Rattle.asp_atoms.specs.Ascending.{place_in}
@@ -27,12 +28,13 @@ abbrev pub numbered_from : ℕ → ℕ → List Predicate → List NumberedPredi
 numbered_from size first [] = []
 numbered_from size first (q ∷ qs) = with_number first q ∷ numbered_from size (first + size ^ q.arity) qs
 
--- the vocabulary of constants, of the universes of levels, and of predicates
-abbrev pub vocabulary_from : List Const → List (List Const) → List Predicate → Vocabulary
-vocabulary_from constants universes qs = record {
+-- the vocabulary of constants, of the universes of levels, and of predicates with so many atoms
+abbrev pub vocabulary_from : List Const → List (List Const) → List Predicate → ℕ → Vocabulary
+vocabulary_from constants universes qs atoms = record {
   constants = constants;
   universes = map (map (const_rank constants)) universes;
   predicates = numbered_from (length constants) 0 qs;
+  atoms = atoms;
 }
 
 -- the vocabulary of a program
@@ -43,4 +45,5 @@ vocabulary_of p =
       constants = constants;
       universes = map (λ i. map (const_rank constants) (universe p i)) (numbers_from 0 (last_level p + 1));
       predicates = numbered_from (length constants) 0 (predicates p (last_level p));
+      atoms = atom_total p;
     }

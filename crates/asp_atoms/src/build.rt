@@ -11,10 +11,9 @@ ghost use Rattle.asp_atoms.specs.Universes.{constants_of};
 ghost use Rattle.asp_atoms.specs.Signatures.{predicates_of};
 ghost use Rattle.asp_atoms.specs.Vocabularies.{numbered_from, vocabulary_from, vocabulary_of};
 ghost use Rattle.asp_atoms.specs.Answers.{IsFound, IsBaseRefusal};
-ghost use Rattle.asp_atoms.specs.Gathered.{IsGathered};
 
 use crate::constants::{Constants, listed, ranked};
-use crate::gathered::{Gathered, gather};
+use crate::gathered::gather;
 use crate::signatures::Signature;
 use crate::vocabularies::{NumberedPredicate, Vocabulary};
 use asp_check::Checked;
@@ -54,19 +53,20 @@ fn numbered(
     Ok(List::from_vec(out))
 }
 
-/// The vocabulary of the last of these universes and of its predicates.
+/// The vocabulary of the last of these universes and of its predicates, which have so many atoms.
 fn vocabulary_over(
     alloc: Global,
     universes: &[Constants],
     last: &Constants,
     signatures: &[Signature],
+    atoms: u32,
 ) -> Result<Vocabulary, NoMemory>
     requires constants { length (constants_of last.now) ≤ limit which.Constants }
     requires ordered { Ascends const_cmp (constants_of last.now) }
     requires atoms { sum_by (λ q. length (constants_of last.now) ^ q.arity) (predicates_of signatures.now) ≤ limit which.Atoms }
     requires short { (q : Predicate) → IsIn q (predicates_of signatures.now) → q.arity ≤ limit which.Arguments }
     ensures { IfOk result (λ v. v
-        ≡ vocabulary_from (constants_of last.now) (map constants_of universes.now) (predicates_of signatures.now)) }
+        ≡ vocabulary_from (constants_of last.now) (map constants_of universes.now) (predicates_of signatures.now) atoms) }
 {
     let constants = listed(alloc, last)?;
     let predicates = numbered(alloc, constants.len() as u32, signatures)?;
@@ -76,29 +76,8 @@ fn vocabulary_over(
         constants,
         universes,
         predicates,
+        atoms,
     })
-}
-
-/// What is gathered of a program, and its vocabulary.
-///
-/// # Errors
-///
-/// `TooLarge` where the program passes a limit, and `NoMemory` where memory runs out, as `vocabulary` says.
-pub fn gather_vocabulary(
-    alloc: Global,
-    checked: &Checked,
-) -> Result<(Gathered<'_>, Vocabulary), SizeFault>
-    ensures { MatchResult result
-        (λ both. IsGathered checked.now both.0 × (both.1 ≡ vocabulary_of checked.now))
-        (IsBaseRefusal checked.now) }
-{
-    let gathered = gather(alloc, checked)?;
-    let last = gathered.universes.len() - 1;
-    let constants = &gathered.universes[last];
-    let predicates = gathered.signatures[last].as_slice();
-    let universes = gathered.universes.as_slice();
-    let vocabulary = vocabulary_over(alloc, universes, constants, predicates)?;
-    Ok((gathered, vocabulary))
 }
 
 /// The vocabulary of a program.
@@ -110,6 +89,11 @@ pub fn gather_vocabulary(
 pub fn vocabulary(alloc: Global, checked: &Checked) -> Result<Vocabulary, SizeFault>
     ensures { MatchResult result (IsFound checked.now (vocabulary_of checked.now)) (IsBaseRefusal checked.now) }
 {
-    let (_gathered, vocabulary) = gather_vocabulary(alloc, checked)?;
+    let gathered = gather(alloc, checked)?;
+    let last = gathered.universes.len() - 1;
+    let constants = &gathered.universes[last];
+    let predicates = gathered.signatures[last].as_slice();
+    let universes = gathered.universes.as_slice();
+    let vocabulary = vocabulary_over(alloc, universes, constants, predicates, gathered.atoms)?;
     Ok(vocabulary)
 }

@@ -19,7 +19,7 @@ use asp_defs::{Const, List, Name, NoMemory, Rule, Term};
 use std::alloc::Global;
 
 /// Constants: integers as intervals, and symbols. A symbol borrows its bytes.
-#[derive(Debug, Drop)]
+#[derive(Drop)]
 pub struct Constants<'a> {
     /// Ascending, and no integer in two of them.
     pub intervals: Vec<Interval>,

@@ -17,7 +17,7 @@ use asp_defs::{SizeFault, Which};
 use std::alloc::Global;
 
 /// What is gathered of a program. Names borrow their bytes.
-#[derive(Debug, Drop)]
+#[derive(Drop)]
 pub struct Gathered<'a> {
     /// The universes of the levels from 0 to n + 1.
     pub universes: Vec<Constants<'a>>,

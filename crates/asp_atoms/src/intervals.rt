@@ -12,7 +12,7 @@ use asp_defs::{Const, NoMemory, Term};
 use std::alloc::Global;
 
 /// The integers from `low` to `high`: none where these are swapped.
-#[derive(Clone, Copy, Debug, PartialEq, Eq, PartialOrd, Ord)]
+#[derive(Clone, Copy, PartialEq, Eq, PartialOrd, Ord)]
 pub struct Interval {
     /// The least integer, where there is one.
     pub low: i32,

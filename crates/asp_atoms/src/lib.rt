@@ -27,13 +27,10 @@ mod tuples;
 mod vocabularies;
 mod written;
 
-pub use base::bases;
+pub use base::{bases, bases_over};
 pub use build::vocabulary;
 pub use gathered::atom_count;
 pub use intervals::{interval_length, stepped};
 pub use keys::{Key, compare_keys};
 pub use search::{number, place_of};
 pub use vocabularies::{NumberedPredicate, Vocabulary};
-
-#[cfg(test)]
-mod tests;

@@ -4,22 +4,16 @@ ghost use Rattle.std.specs.List.{flat_map};
 ghost use Rattle.std.specs.Ordering.{is_eq};
 ghost use Rattle.asp_defs.specs.Lists.{numbers_from};
 ghost use Rattle.asp_defs.specs.Constants.{distinct};
-ghost use Rattle.asp_defs.specs.Bases.{
-  predicate_cmp,
-  atom_predicate,
-  literal_predicates,
-  element_predicates,
-  head_predicates,
-  rule_predicates,
-};
+ghost use Rattle.asp_defs.specs.Bases.{predicate_cmp, atom_predicate, rule_predicates};
 ghost use Rattle.asp_atoms.specs.Ascending.{Ascends};
 ghost use Rattle.asp_atoms.specs.Signatures.{predicate_of, predicates_of, predicates_to};
 
-use asp_defs::{Atom, Element, Head, Literal, NoMemory, Rule};
+use asp_defs::{Atom, NoMemory, Rule};
+use asp_walk::Atoms;
 use std::alloc::Global;
 
 /// A predicate: a name with its arity. The name borrows its bytes.
-#[derive(Clone, Copy, Debug, PartialEq, Eq, PartialOrd, Ord)]
+#[derive(Clone, Copy, PartialEq, Eq, PartialOrd, Ord)]
 pub struct Signature<'a> {
     /// The bytes of its name.
     pub name: &'a [u8],
@@ -37,76 +31,14 @@ fn signature_of(atom: &Atom) -> Signature<'_>
     }
 }
 
-/// Adds the predicates of a literal.
-fn add_literal<'a>(out: &mut Vec<Signature<'a>>, literal: &'a Literal) -> Result<(), NoMemory>
-    ensures { OnOk result (predicates_of out.new.items ≡ predicates_of out.old.items ++ literal_predicates literal.now) }
-{
-    match literal {
-        Literal::Pos(atom) => {
-            out.push(signature_of(atom))?;
-        }
-        Literal::Neg(atom) => {
-            out.push(signature_of(atom))?;
-        }
-        Literal::Cmp(..) => {}
-    }
-    Ok(())
-}
-
-/// Adds the predicates of literals.
-fn add_literals<'a>(out: &mut Vec<Signature<'a>>, literals: &'a [Literal]) -> Result<(), NoMemory>
-    ensures { OnOk result (predicates_of out.new.items ≡ predicates_of out.old.items ++ flat_map literal_predicates literals.now) }
-{
-    for literal in literals {
-        add_literal(out, literal)?;
-    }
-    Ok(())
-}
-
-/// Adds the predicates of atoms.
-fn add_atoms<'a>(out: &mut Vec<Signature<'a>>, atoms: &'a [Atom]) -> Result<(), NoMemory>
-    ensures { OnOk result (predicates_of out.new.items ≡ predicates_of out.old.items ++ map atom_predicate atoms.now) }
-{
-    for atom in atoms {
-        out.push(signature_of(atom))?;
-    }
-    Ok(())
-}
-
-/// Adds the predicates of an element.
-fn add_element<'a>(out: &mut Vec<Signature<'a>>, element: &'a Element) -> Result<(), NoMemory>
-    ensures { OnOk result (predicates_of out.new.items ≡ predicates_of out.old.items ++ element_predicates element.now) }
-{
-    out.push(signature_of(&element.atom))?;
-    add_literals(out, element.cond.as_slice())
-}
-
-/// Adds the predicates of elements.
-fn add_elements<'a>(out: &mut Vec<Signature<'a>>, elements: &'a [Element]) -> Result<(), NoMemory>
-    ensures { OnOk result (predicates_of out.new.items ≡ predicates_of out.old.items ++ flat_map element_predicates elements.now) }
-{
-    for element in elements {
-        add_element(out, element)?;
-    }
-    Ok(())
-}
-
-/// Adds the predicates of a head.
-fn add_head<'a>(out: &mut Vec<Signature<'a>>, head: &'a Head) -> Result<(), NoMemory>
-    ensures { OnOk result (predicates_of out.new.items ≡ predicates_of out.old.items ++ head_predicates head.now) }
-{
-    match head {
-        Head::Disj(atoms) => add_atoms(out, atoms.as_slice()),
-        Head::Choice(elements) => add_elements(out, elements.as_slice()),
-    }
-}
-
 /// Adds the predicates of a rule.
 fn add_rule<'a>(out: &mut Vec<Signature<'a>>, rule: &'a Rule) -> Result<(), NoMemory>
     ensures { OnOk result (predicates_of out.new.items ≡ predicates_of out.old.items ++ rule_predicates rule.now) }
 {
-    add_head(out, &rule.head)?;
-    add_literals(out, rule.body.as_slice())
+    for atom in Atoms::of_rule(rule) {
+        out.push(signature_of(atom))?;
+    }
+    Ok(())
 }
 
 /// Adds the predicates of rules.

@@ -23,4 +23,6 @@ pub struct Vocabulary {
     pub universes: List<List<u32>>,
     /// The predicates of the last level ascending, each with the number of its first atom.
     pub predicates: List<NumberedPredicate>,
+    /// How many atoms they have over all constants.
+    pub atoms: u32,
 }

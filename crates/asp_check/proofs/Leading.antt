@@ -16,8 +16,10 @@ use Rattle.asp_check.specs.Variables.{term_of, terms_of}
 use Rattle.asp_check.specs.Bindings.{link_of, links_of}
 use Rattle.asp_check.specs.Closure.{Within, IsSpread, IsLeast}
 use Rattle.asp_check.specs.Leaders.{IsSymmetric, AreJoined, leader_of, IsLed, Lead, LeadSome, Leads, Keeps}
-use Rattle.asp_check.proofs.Members.{equal, itself, member_at, member_from, same_truth}
+use Rattle.asp_defs.proofs.SafetyLaws.{equal}
+use Rattle.asp_check.proofs.Members.{itself, member_at, member_from, same_truth}
 use Rattle.asp_check.proofs.Sets.{eq_is}
+use Rattle.asp_check.proofs.Safe.{variable_self}
 use Rattle.asp_check.proofs.Steps.{map_more, get_is_in}
 
 -- a look-up by `==` is one by terms
@@ -158,9 +160,6 @@ ends ls u v i =
     let found = map_at link_of ls (u, v) i in
     ((found.0).from, (found.0).to, ap (λ (p : Term × Term). p.0) found.2, ap (λ (p : Term × Term). p.1) found.2)
 
-reached_itself : (xs : List Variable) (w : Term) → IsIn w (terms_of xs) → same_variable w w ≡ true
-reached_itself xs w i = let found = map_at term_of xs w i in subst (λ t. same_variable t t ≡ true) (sym found.2) (itself found.0)
-
 pub lead_more : (ls : List Link) (before after : List (Variable × Variable)) (xs : List Variable) (s n : Term) → IsLeast (s ∷ []) (links_of ls) (terms_of xs) → IsSymmetric (links_of ls) → Lead (links_of ls) before → IsIn n (s ∷ terms_of xs) → Leads before after (terms_of xs) n → Lead (links_of ls) after
 lead_more ls before after xs s n least symmetric old among leads = record {
   same = λ u v i.
@@ -193,7 +192,7 @@ lead_more ls before after xs s n least symmetric old among leads = record {
     go v r e (inl h) =
         let same : Some n ≡ Some r = sym (ap (λ (b : Bool). entry_of b n (leader_of before (term_of v))) h) ∙ (sym (leads v) ∙ e) in
         subst (λ w. AreJoined (links_of ls) (term_of v) w) (ap (some_or n) same)
-        (reach_joined (links_of ls) s (terms_of xs) least (reached_itself xs) symmetric (term_of v) n (member_at (terms_of xs) (term_of v) h) (within))
+        (reach_joined (links_of ls) s (terms_of xs) least (variable_self xs) symmetric (term_of v) n (member_at (terms_of xs) (term_of v) h) (within))
     go v r e (inr h) =
         old.joined v r (sym (ap (λ (b : Bool). entry_of b n (leader_of before (term_of v))) h) ∙ (sym (leads v) ∙ e))
 

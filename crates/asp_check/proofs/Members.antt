@@ -1,26 +1,20 @@
 -- Variables of lists: tests and members.
-use Rattle.std.proofs.Common.{◌≡◌, refl, sym, ap, subst, inl, inr, Bool, true, false, List, [], ◌∷◌}
+use Rattle.std.proofs.Common.{◌≡◌, refl, sym, subst, inl, inr, Bool, true, false, List, [], ◌∷◌}
 use Rattle.std.specs.List.{flat_map}
 use Rattle.std.specs.Cmp.Lexicographic.{bytes_decides}
-use Rattle.std.proofs.lemmas.Bool.{eqb-true, eq-eqb}
+use Rattle.std.proofs.lemmas.Bool.{eq-eqb}
 use Rattle.asp_defs.specs.declared.syntax.Term.{Term}
-use Rattle.asp_defs.specs.declared.syntax.Term.TheVariants.{Var, Anon}
 use Rattle.asp_defs.specs.Lists.{IsIn}
 use Rattle.asp_defs.specs.Instances.{same_variable}
 use Rattle.asp_defs.specs.Safety.{is_variable_of}
 use Rattle.asp_defs.proofs.Lists.{any_at, any_from, append_at, append_left, append_right}
-use Rattle.asp_defs.proofs.TextRefutations.{clash}
+use Rattle.asp_defs.proofs.SafetyLaws.{equal}
 use Rattle.asp_check.specs.declared.variables.Variable.{Variable}
 use Rattle.asp_check.specs.declared.variables.Variable.TheVariants as variants
 use Rattle.asp_check.specs.Variables.{term_of}
 use Rattle.asp_check.specs.Closure.{Within}
 
 -- variables that are the same are equal, and a variable is the same as itself
-pub equal : (v w : Term) → same_variable v w ≡ true → v ≡ w
-equal (Var n) (Var m) h = ap Var ((bytes_decides n m).0 h)
-equal (Anon j) (Anon k) h = ap Anon (eqb-true j k h)
-equal v w h = clash h
-
 pub itself : (v : Variable) → same_variable (term_of v) (term_of v) ≡ true
 itself (variants.Named n) = (bytes_decides n.now n.now).1 refl
 itself (variants.Anon k) = eq-eqb k k refl

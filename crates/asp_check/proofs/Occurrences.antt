@@ -7,7 +7,8 @@ use Rattle.asp_defs.specs.declared.syntax.Term.{Term}
 use Rattle.asp_defs.specs.Instances.{same_variable, first_occurrences}
 use Rattle.asp_defs.specs.Safety.{is_variable_of}
 use Rattle.asp_defs.proofs.Lists.{true_or_false}
-use Rattle.asp_check.proofs.Members.{equal, same_truth}
+use Rattle.asp_defs.proofs.SafetyLaws.{equal}
+use Rattle.asp_check.proofs.Members.{same_truth}
 
 abbrev longer : Bool → List Term → Term → List Term
 longer b vs v = if b then vs else vs ++ v ∷ []

@@ -10,13 +10,14 @@ use Rattle.asp_defs.proofs.Lists.{true_or_false}
 use Rattle.asp_defs.proofs.TextRefutations.{clash}
 use Rattle.asp_check.specs.declared.variables.Variable.{Variable}
 use Rattle.asp_check.specs.contracts.variables.VariablePartialEq.TheImpl.{eq-value}
-use Rattle.std.proofs.lemmas.List.{length-map}
+use Rattle.std.proofs.lemmas.List.{length-map, get_or_default}
 use Rattle.asp_check.specs.declared.bindings.Link.{Link}
 use Rattle.asp_check.specs.Bindings.{link_of, links_of}
 use Rattle.asp_check.specs.Variables.{term_of}
 use Rattle.asp_check.specs.Closure.{Settles, Follows}
 use Rattle.asp_check.specs.Index.{reach, nowhere, link_at, source, IsLast, last_of, IsIndexOf}
-use Rattle.asp_check.proofs.Members.{equal, itself}
+use Rattle.asp_defs.proofs.SafetyLaws.{equal}
+use Rattle.asp_check.proofs.Members.{itself}
 use Rattle.asp_check.proofs.Sets.{eq_is}
 use Rattle.asp_check.proofs.Spreading.{follows_none, follows_more}
 use Rattle.asp_check.proofs.Steps.{get_is_in}
@@ -198,16 +199,11 @@ following_more ls u place d at before S T V Q R W here f last s = record {
 pub following_end : (links : List (Term × Term)) (u : Term) (at : Option ℕ) (S T Q R : List Term) → at ≡ None → Following links u at S T Q R → Follows links links u S T Q R
 following_end links u at S T Q R none f = subst (λ o. Follows links (drop (reach o) links) u S T Q R) none f.follows
 
-get_same : {A : Type 0} (xs : List A) (k : ℕ) (d e : A) → k < length xs → get_or xs k d ≡ get_or xs k e
-get_same [] k d e h = absurd (omega arith)
-get_same (x ∷ xs) zero d e h = refl
-get_same (x ∷ xs) (suc k) d e h = get_same xs k d e (omega arith)
-
 -- the place before one that is followed
 pub before_at : (ls : List Link) (u : Term) (place : ℕ) (at before : Option ℕ) (S T Q R : List Term) (entries : List (Variable × ℕ)) (previous : List (Option ℕ)) → at ≡ Some place → Following (links_of ls) u at S T Q R → IsIndexOf (links_of ls) (length ls) entries previous → before ≡ get_or previous place before → IsLast (links_of ls) place (source (links_of ls) place) before
 before_at ls u place at before S T Q R entries previous here f index e =
     subst (λ o. IsLast (links_of ls) place (source (links_of ls) place) o)
-    (sym (e ∙ get_same previous place before None (let w = index.whole in let i = inside in omega arith))) (index.before place inside)
+    (sym (e ∙ get_or_default previous place before None (let w = index.whole in let i = inside in omega arith))) (index.before place inside)
   where
     inside : place < length ls
     inside =

@@ -2,8 +2,6 @@
 use Rattle.std.proofs.Common.{◌≡◌, ◌⊎◌, refl, sym, ◌∙◌, ap, subst, inl, inr, Bool, true, cond, List, [], ◌∷◌, ◌++◌, map}
 use Rattle.std.specs.List.{flat_map, filter}
 use Rattle.std.proofs.lemmas.List.Concat.{flat_map-append}
-use Rattle.std.specs.Cmp.Lexicographic.{bytes_decides}
-use Rattle.std.proofs.lemmas.Bool.{eq-eqb}
 use Rattle.asp_defs.specs.declared.syntax.Op.TheVariants.{Eq, Ne, Lt, Le, Gt, Ge}
 use Rattle.asp_defs.specs.declared.syntax.Term.{Term}
 use Rattle.asp_defs.specs.declared.syntax.Term.TheVariants.{Int, Sym, Var, Anon, Range}
@@ -13,8 +11,8 @@ use Rattle.asp_defs.specs.Lists.{IsIn}
 use Rattle.asp_defs.specs.Instances.{same_variable, term_variables, literal_variables}
 use Rattle.asp_defs.specs.Safety.{is_variable_of, bound_by_atom, bound_by_equation, is_settled, settled_by, safe_variables}
 use Rattle.asp_defs.specs.TextLaws.{IsClosed}
-use Rattle.asp_defs.proofs.Lists.{both, and_true, true_or_false, append_at, append_left, append_right, map_at, map_from}
-use Rattle.asp_defs.proofs.SafetyLaws.{safe_variables_are_least}
+use Rattle.asp_defs.proofs.Lists.{both, and_true, append_at, append_left, append_right, map_at, map_from}
+use Rattle.asp_defs.proofs.SafetyLaws.{itself as same_self, brought, brings, safe_variables_are_least}
 use Rattle.asp_defs.proofs.TextRefutations.{clash}
 use Rattle.asp_check.specs.declared.variables.Variable.{Variable}
 use Rattle.asp_check.specs.Variables.{term_of, terms_of}
@@ -23,16 +21,6 @@ use Rattle.asp_check.specs.Closure.{Within, IsSpread, IsLeast}
 use Rattle.asp_check.specs.Leaders.{IsSymmetric}
 use Rattle.asp_check.specs.Safe.{Agree}
 use Rattle.asp_check.proofs.Members.{itself, member_at, member_from, same_test, flat_at, flat_from}
-
--- a variable of a term is the same as itself
-pub same_self : (t v : Term) → IsIn v (term_variables t) → same_variable v v ≡ true
-same_self (Int x) v i = absurd i
-same_self (Sym s) v i = absurd i
-same_self (Var n) v (inl e) = subst (λ w. same_variable w w ≡ true) (sym e) ((bytes_decides n n).1 refl)
-same_self (Var n) v (inr i) = absurd i
-same_self (Anon k) v (inl e) = subst (λ w. same_variable w w ≡ true) (sym e) (eq-eqb k k refl)
-same_self (Anon k) v (inr i) = absurd i
-same_self (Range low high) v i = absurd i
 
 -- a settled term has no variable, or one that is safe
 settled_cases : (S : List Term) (t : Term) → is_settled S t ≡ true → (is_settled [] t ≡ true) ⊎ ((w : Term) × IsIn w (term_variables t) × IsIn w S)
@@ -59,15 +47,6 @@ settled_always S (Sym s) h = refl
 settled_always S (Var n) h = clash h
 settled_always S (Anon k) h = clash h
 settled_always S (Range low high) h = refl
-
-brought : (S : List Term) (x y v : Term) → IsIn v (settled_by S x y) → (is_settled S y ≡ true) × IsIn v (term_variables x)
-brought S x y v i = elim (true_or_false (is_settled S y)) [
-  | inl h ↦ (h, subst (λ (b : Bool). IsIn v (cond b (term_variables x) [])) h i)
-  | inr h ↦ absurd (subst (λ (b : Bool). IsIn v (cond b (term_variables x) [])) h i)
-]
-
-brings : (S : List Term) (x y v : Term) → is_settled S y ≡ true → IsIn v (term_variables x) → IsIn v (settled_by S x y)
-brings S x y v h i = subst (λ (b : Bool). IsIn v (cond b (term_variables x) [])) (sym h) i
 
 -- the pairs of two lists
 pairs_at : (us vs : List Term) (u v : Term) → IsIn (u, v) (pairs us vs) → IsIn u us × IsIn v vs

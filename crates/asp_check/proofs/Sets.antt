@@ -12,7 +12,8 @@ use Rattle.asp_check.specs.declared.variables.Variable.TheVariants as variants
 use Rattle.asp_check.specs.contracts.variables.VariablePartialEq.TheImpl.{eq-value}
 use Rattle.asp_check.specs.Variables.{term_of, terms_of}
 use Rattle.asp_check.specs.Closure.{Within, Settles}
-use Rattle.asp_check.proofs.Members.{itself, equal, member_at, member_from}
+use Rattle.asp_defs.proofs.SafetyLaws.{equal}
+use Rattle.asp_check.proofs.Members.{itself, member_at, member_from}
 
 -- `==` as a test of variables
 abbrev eq : Variable → Variable → Bool

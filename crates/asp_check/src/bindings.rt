@@ -6,11 +6,12 @@ ghost use Rattle.asp_defs.specs.declared.syntax.Literal.TheVariants.{Cmp};
 ghost use Rattle.asp_check.specs.Variables.{term_of, terms_of};
 ghost use Rattle.asp_check.specs.Bindings.{bound_alone, links_of, literal_links};
 
-use crate::variables::{Variable, add_atom, variable_of};
+use crate::variables::{Variable, add_variables, variable_of};
 use asp_defs::{Literal, NoMemory, Op, Term};
+use asp_walk::Terms;
 
 /// An equation that makes its second variable safe where the first one is.
-#[derive(Clone, Copy, Debug)]
+#[derive(Clone, Copy)]
 pub struct Link<'a> {
     /// The variable that is safe first.
     pub from: Variable<'a>,
@@ -68,7 +69,7 @@ fn add_binding<'a>(
     ensures links { OnOk result (links_of links.new.items ≡ links_of links.old.items ++ literal_links literal.now) }
 {
     match literal {
-        Literal::Pos(atom) => add_atom(bound, atom),
+        Literal::Pos(atom) => add_variables(bound, Terms::of_atom(atom)),
         Literal::Cmp(left, Op::Eq, right) => add_equation(bound, links, left, right),
         _ => Ok(()),
     }

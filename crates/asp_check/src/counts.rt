@@ -1,13 +1,8 @@
 //! What the limits count.
 ghost use Rattle.std.specs.Prelude.{◌≡◌, ℕ, ◌+◌, ◌≤◌, map, max, length, IfOk};
 ghost use Rattle.std.specs.List.{flat_map, sum_by};
-ghost use Rattle.asp_defs.specs.Instances.{pos_atoms, neg_atoms};
 ghost use Rattle.asp_defs.specs.Limits.{
-  literal_atoms,
-  element_atoms,
-  head_atoms,
   rule_atoms,
-  head_literals,
   rule_literals,
   variable_count,
   greatest,
@@ -16,62 +11,19 @@ ghost use Rattle.asp_check.specs.Counts.{arguments_with, capped};
 
 use crate::safety::count_distinct;
 use crate::variables::variables;
-use asp_defs::{Atom, Element, Head, Literal, NoMemory, Rule};
+use asp_defs::{Element, Head, NoMemory, Rule};
+use asp_walk::{Atoms, Terms};
 use std::alloc::Global;
 
-/// The greater of a count and that of an atom's arguments.
-fn atom_arguments(most: u64, atom: &Atom) -> u64
-    ensures { result ≡ max most (length atom.now.args) }
-{
-    most.max(atom.args.len() as u64)
-}
-
-/// The greatest of a count and those of the arguments of atoms.
-fn atoms_arguments(most: u64, atoms: &[Atom]) -> u64
-    ensures { result ≡ arguments_with most atoms.now }
-{
-    let mut most = most;
-    for atom in atoms {
-        most = atom_arguments(most, atom);
-    }
-    most
-}
-
-/// The greatest of a count and those of the arguments in literals.
-fn literals_arguments(most: u64, literals: &[Literal]) -> u64
-    ensures { result ≡ arguments_with most (flat_map literal_atoms literals.now) }
-{
-    let mut most = most;
-    for literal in literals {
-        most = match literal {
-            Literal::Pos(atom) => atom_arguments(most, atom),
-            Literal::Neg(atom) => atom_arguments(most, atom),
-            Literal::Cmp(..) => most,
-        };
-    }
-    most
-}
-
-/// The greatest of a count and those of the arguments in elements.
-fn elements_arguments(most: u64, elements: &[Element]) -> u64
-    ensures { result ≡ arguments_with most (flat_map element_atoms elements.now) }
-{
-    let mut most = most;
-    for element in elements {
-        most = literals_arguments(atom_arguments(most, &element.atom), element.cond.as_slice());
-    }
-    most
-}
-
-/// The greatest of a count and those of the arguments in a rule.
+/// The greatest of a count and those of the arguments of a rule's atoms.
 fn rule_arguments(most: u64, rule: &Rule) -> u64
     ensures { result ≡ arguments_with most (rule_atoms rule.now) }
 {
-    let most = match &rule.head {
-        Head::Disj(atoms) => atoms_arguments(most, atoms.as_slice()),
-        Head::Choice(elements) => elements_arguments(most, elements.as_slice()),
-    };
-    literals_arguments(most, rule.body.as_slice())
+    let mut most = most;
+    for atom in Atoms::of_rule(rule) {
+        most = most.max(atom.args.len() as u64);
+    }
+    most
 }
 
 /// The greatest count of an atom's arguments in rules.
@@ -125,7 +77,7 @@ pub fn most_literals(rules: &[&Rule]) -> u64
 fn rule_variables(alloc: Global, most: u64, rule: &Rule) -> Result<u64, NoMemory>
     ensures { IfOk result (λ greater. greater ≡ max most (variable_count rule.now)) }
 {
-    let written = variables(alloc, rule)?;
+    let written = variables(alloc, Terms::of_rule(rule))?;
     if written.len() as u64 <= most {
         return Ok(most);
     }

@@ -1,6 +1,6 @@
 //! The checks of a program as it is written: its safety, the form of its constraint part, and its size.
 //!
-//! In reading order: `variables` (the variables of a rule, as they are written), `bindings` (what a body binds by
+//! In reading order: `variables` (the variables of a rule, in the order of the text), `bindings` (what a body binds by
 //! itself, and what its equations link), `index` (where the links from a variable
 //! stand), `closure` (the variables that are safe by them), `leaders` (the variables that equations join, by one of
 //! them), `safety` (the unsafe variables of a rule), `counts` (what the limits count), `checks` (the answer for a
@@ -19,6 +19,3 @@ mod variables;
 
 pub use checks::{CheckFault, Checked, check};
 pub use variables::{Variable, variable_of};
-
-#[cfg(test)]
-mod tests;

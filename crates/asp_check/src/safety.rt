@@ -23,8 +23,9 @@ ghost use Rattle.asp_check.specs.Safe.{AgreeOn, Agree, element_unsafe};
 use crate::bindings::add_bindings;
 use crate::closure::{close, has, settle_all};
 use crate::leaders::{add_leaders, leaders_of};
-use crate::variables::{Variable, add_atoms, add_element, add_literals, variables};
+use crate::variables::{Variable, variables};
 use asp_defs::{Element, Head, Literal, Name, NoMemory, Rule, Var};
+use asp_walk::Terms;
 use std::alloc::Global;
 use std::collections::{HashMap, HashSet};
 
@@ -140,8 +141,7 @@ fn add_element_unsafe<'a>(
     requires leaders { LeadAll (flat_map literal_links body.now) leaders.now.entries }
     ensures { OnOk result (terms_of out.new.items ≡ terms_of out.old.items ++ element_unsafe body.now element.now) }
 {
-    let mut variables = Vec::new(alloc);
-    add_element(&mut variables, element)?;
+    let variables = variables(alloc, Terms::of_element(element))?;
     let set = safe_of_element(alloc, body, safe, leaders, element, variables.as_slice())?;
     add_others(out, &set, variables.as_slice())
 }
@@ -179,8 +179,7 @@ fn add_head_unsafe<'a>(
 {
     match head {
         Head::Disj(atoms) => {
-            let mut variables = Vec::new(alloc);
-            add_atoms(&mut variables, atoms.as_slice())?;
+            let variables = variables(alloc, Terms::of_atoms(atoms.as_slice()))?;
             add_others(out, safe, variables.as_slice())
         }
         Head::Choice(elements) => {
@@ -195,8 +194,7 @@ fn rule_unsafe<'a>(alloc: Global, rule: &'a Rule) -> Result<Vec<Variable<'a>>, N
     ensures { IfOk result (λ out. terms_of out.items ≡ rule_unsafe rule.now) }
 {
     let body = rule.body.as_slice();
-    let mut variables = Vec::new(alloc);
-    add_literals(&mut variables, body)?;
+    let variables = variables(alloc, Terms::of_literals(body))?;
     let safe = safe_of_body(alloc, body)?;
     let mut out = Vec::new(alloc);
     add_head_unsafe(alloc, &mut out, body, &safe, &rule.head)?;
@@ -232,7 +230,7 @@ pub fn first_unsafe<'a>(alloc: Global, rule: &'a Rule) -> Result<Option<Variable
     if others.is_empty() {
         return Ok(None);
     }
-    let variables = variables(alloc, rule)?;
+    let variables = variables(alloc, Terms::of_rule(rule))?;
     first_of(alloc, variables.as_slice(), others.as_slice())
 }
 

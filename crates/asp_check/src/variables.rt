@@ -1,12 +1,12 @@
-//! The variables of a rule, in the order in which they are written.
+//! Variables, in the order in which they are written.
 ghost use Rattle.std.specs.Prelude.{◌≡◌, ◌++◌, OnOk, IfOk, option_map};
 ghost use Rattle.std.specs.List.{flat_map};
 ghost use Rattle.std.specs.Option.{option_to_list};
-ghost use Rattle.asp_defs.specs.Instances.{term_variables, atom_variables, literal_variables};
-ghost use Rattle.asp_defs.specs.Safety.{element_variables, head_variables, rule_variables};
+ghost use Rattle.asp_defs.specs.Instances.{term_variables};
 ghost use Rattle.asp_check.specs.Variables.{term_of, terms_of};
 
-use asp_defs::{Atom, Element, Head, Literal, NoMemory, Rule, Term};
+use asp_defs::{NoMemory, Term};
+use asp_walk::Terms;
 use std::alloc::Global;
 
 /// A variable of a rule. A name borrows its bytes.
@@ -38,7 +38,7 @@ pub fn variable_of(term: &Term) -> Option<Variable<'_>>
 }
 
 /// Adds the variable that a term is, if it is one.
-pub fn add_term<'a>(out: &mut Vec<Variable<'a>>, term: &'a Term) -> Result<(), NoMemory>
+fn add_term<'a>(out: &mut Vec<Variable<'a>>, term: &'a Term) -> Result<(), NoMemory>
     ensures { OnOk result (terms_of out.new.items ≡ terms_of out.old.items ++ term_variables term.now) }
 {
     if let Some(variable) = variable_of(term) {
@@ -47,91 +47,21 @@ pub fn add_term<'a>(out: &mut Vec<Variable<'a>>, term: &'a Term) -> Result<(), N
     Ok(())
 }
 
-/// Adds the variables of an atom.
-pub fn add_atom<'a>(out: &mut Vec<Variable<'a>>, atom: &'a Atom) -> Result<(), NoMemory>
-    ensures { OnOk result (terms_of out.new.items ≡ terms_of out.old.items ++ atom_variables atom.now) }
+/// Adds the variables among terms.
+pub fn add_variables<'a>(out: &mut Vec<Variable<'a>>, terms: Terms<'a>) -> Result<(), NoMemory>
+    ensures { OnOk result (terms_of out.new.items ≡ terms_of out.old.items ++ flat_map term_variables terms.entry) }
 {
-    let args = atom.args.as_slice();
-    for term in args {
+    for term in terms {
         add_term(out, term)?;
     }
     Ok(())
 }
 
-/// Adds the variables of a literal.
-pub fn add_literal<'a>(out: &mut Vec<Variable<'a>>, literal: &'a Literal) -> Result<(), NoMemory>
-    ensures { OnOk result (terms_of out.new.items ≡ terms_of out.old.items ++ literal_variables literal.now) }
-{
-    match literal {
-        Literal::Pos(atom) => add_atom(out, atom),
-        Literal::Neg(atom) => add_atom(out, atom),
-        Literal::Cmp(left, _, right) => {
-            add_term(out, left)?;
-            add_term(out, right)
-        }
-    }
-}
-
-/// Adds the variables of literals.
-pub fn add_literals<'a>(
-    out: &mut Vec<Variable<'a>>,
-    literals: &'a [Literal],
-) -> Result<(), NoMemory>
-    ensures { OnOk result (terms_of out.new.items ≡ terms_of out.old.items ++ flat_map literal_variables literals.now) }
-{
-    for literal in literals {
-        add_literal(out, literal)?;
-    }
-    Ok(())
-}
-
-/// Adds the variables of atoms.
-pub fn add_atoms<'a>(out: &mut Vec<Variable<'a>>, atoms: &'a [Atom]) -> Result<(), NoMemory>
-    ensures { OnOk result (terms_of out.new.items ≡ terms_of out.old.items ++ flat_map atom_variables atoms.now) }
-{
-    for atom in atoms {
-        add_atom(out, atom)?;
-    }
-    Ok(())
-}
-
-/// Adds the variables of an element.
-pub fn add_element<'a>(out: &mut Vec<Variable<'a>>, element: &'a Element) -> Result<(), NoMemory>
-    ensures { OnOk result (terms_of out.new.items ≡ terms_of out.old.items ++ element_variables element.now) }
-{
-    add_atom(out, &element.atom)?;
-    add_literals(out, element.cond.as_slice())
-}
-
-/// Adds the variables of elements.
-pub fn add_elements<'a>(
-    out: &mut Vec<Variable<'a>>,
-    elements: &'a [Element],
-) -> Result<(), NoMemory>
-    ensures { OnOk result (terms_of out.new.items ≡ terms_of out.old.items ++ flat_map element_variables elements.now) }
-{
-    for element in elements {
-        add_element(out, element)?;
-    }
-    Ok(())
-}
-
-/// Adds the variables of a head.
-pub fn add_head<'a>(out: &mut Vec<Variable<'a>>, head: &'a Head) -> Result<(), NoMemory>
-    ensures { OnOk result (terms_of out.new.items ≡ terms_of out.old.items ++ head_variables head.now) }
-{
-    match head {
-        Head::Disj(atoms) => add_atoms(out, atoms.as_slice()),
-        Head::Choice(elements) => add_elements(out, elements.as_slice()),
-    }
-}
-
-/// The variables of a rule.
-pub fn variables<'a>(alloc: Global, rule: &'a Rule) -> Result<Vec<Variable<'a>>, NoMemory>
-    ensures { IfOk result (λ out. terms_of out.items ≡ rule_variables rule.now) }
+/// The variables among terms.
+pub fn variables<'a>(alloc: Global, terms: Terms<'a>) -> Result<Vec<Variable<'a>>, NoMemory>
+    ensures { IfOk result (λ out. terms_of out.items ≡ flat_map term_variables terms.entry) }
 {
     let mut out = Vec::new(alloc);
-    add_head(&mut out, &rule.head)?;
-    add_literals(&mut out, rule.body.as_slice())?;
+    add_variables(&mut out, terms)?;
     Ok(out)
 }

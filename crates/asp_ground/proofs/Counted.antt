@@ -1,10 +1,12 @@
 -- The instances that are counted from the front of a program are all that it has.
-use Rattle.std.proofs.Common.{ℕ, suc, ◌≡◌, ◌≤◌, ◌+◌, ◌*◌, ◌^◌, refl, sym, ◌∙◌, ap, subst, inl, inr, Bool, ◌&&◌, List, [], ◌∷◌, ◌++◌, append-nil, append_assoc, zero-add, map, take, length, arith}
+use Rattle.std.proofs.Common.{ℕ, suc, ◌≡◌, ◌<◌, ◌≤◌, ◌+◌, ◌*◌, ◌^◌, refl, sym, ◌∙◌, ap, subst, inl, inr, Bool, ◌&&◌, List, [], ◌∷◌, ◌++◌, append-nil, append_assoc, zero-add, map, take, length, get_or, arith}
 use Rattle.std.specs.Prelude.{if◌then◌else◌, IsTrue, None, ◌==◌}
 use Rattle.std.specs.List.{flat_map, fold, sum_by, enumerate_from}
 use Rattle.std.proofs.lemmas.Bool.{ne_eqb, lt-ltb}
 use Rattle.std.proofs.Math.Nat.{pow-zero}
 use Rattle.std.proofs.lemmas.List.{length-map, length-append, take_at}
+use Rattle.std.proofs.lemmas.List.Concat.{flat_map-append}
+use Rattle.std.proofs.lemmas.List.Sums.{sum_by-cons}
 use Rattle.asp_defs.specs.declared.ground.Const.{Const}
 use Rattle.asp_defs.specs.declared.syntax.Term.{Term}
 use Rattle.asp_defs.specs.declared.syntax.Term.TheVariants.{Int, Sym, Var, Anon, Range}
@@ -26,21 +28,22 @@ use Rattle.asp_check.specs.Condition.{IsCheckable}
 use Rattle.asp_check.proofs.Members.{flat_at, flat_from}
 use Rattle.asp_defs.specs.Checks.{is_checked}
 use Rattle.asp_atoms.specs.declared.vocabularies.Vocabulary.{Vocabulary}
-use Rattle.asp_atoms.specs.Vocabularies.{vocabulary_of}
+use Rattle.asp_atoms.specs.Vocabularies.{const_rank, vocabulary_of}
 use Rattle.asp_atoms.specs.Answers.{base_too_large}
 use Rattle.asp_atoms.proofs.Orders.{const_lawful}
 use Rattle.asp_atoms.proofs.Ascending.{in_with, with_new, with_old, ascends_with, ascends_distinct, in_distinct, distinct_from, distinct_is}
+use Rattle.asp_atoms.proofs.Counting.{levels_long}
 use Rattle.asp_atoms.proofs.Gathering.{few_constants}
 use Rattle.asp_atoms.proofs.Integers.{length_integers}
 use Rattle.asp_ground.proofs.Parts.{make_rule, with_args, suc_is_not, more_is_not}
 use Rattle.asp_ground.specs.Variables.{disjunctive_variables, element_variables}
-use Rattle.asp_ground.specs.Counts.{with_constant, choice_count, fact_count, head_count, rule_count, counted_from}
+use Rattle.asp_ground.specs.Counts.{with_constant, choice_count, fact_count, head_count, rule_count, level_count, counted_from}
 use Rattle.asp_ground.proofs.Gathered.{roomed}
 use Rattle.asp_ground.proofs.Members.{few_ascending}
-use Rattle.asp_ground.proofs.Products.{with_first, flat_map_append, tuple_member}
+use Rattle.asp_ground.proofs.Products.{with_first, tuple_member}
 use Rattle.asp_ground.proofs.FactInstances.{KnownArgument, KnownConstant, KnownFact, choice_known}
 use Rattle.asp_ground.proofs.RuleInstances.{KnownRule, disjunctive_found, element_found, known_fact}
-use Rattle.asp_ground.proofs.Levels.{constant_known, rule_known}
+use Rattle.asp_ground.proofs.Levels.{constant_known, rule_known, universe_at, placed}
 
 -- ---- constants from the front
 
@@ -79,33 +82,24 @@ gathered xs (y ∷ ys) few =
 
 -- ---- sums
 
-sum_from : {A : Type 0} (f : A → ℕ) (n : ℕ) (xs : List A) → fold (λ m x. m + f x) n xs ≡ n + sum_by f xs
-sum_from f n [] = omega arith
-sum_from f n (x ∷ xs) =
-    let first = sum_from f (n + f x) xs in
-    let second = sum_from f (0 + f x) xs in omega (arith, first, second)
-
-sum_cons : {A : Type 0} (f : A → ℕ) (x : A) (xs : List A) → sum_by f (x ∷ xs) ≡ f x + sum_by f xs
-sum_cons f x xs = let whole = sum_from f (0 + f x) xs in omega (arith, whole)
-
 sum_same : {A : Type 0} (f g : A → ℕ) (xs : List A) → ((x : A) → IsIn x xs → f x ≡ g x) → sum_by f xs ≡ sum_by g xs
 sum_same f g [] h = refl
 sum_same f g (x ∷ xs) h =
-    sum_cons f x xs
+    sum_by-cons f x xs
     ∙ (ap (λ n. n + sum_by f xs) (h x (inl refl))
-    ∙ (ap (λ n. g x + n) (sum_same f g xs (λ y i. h y (inr i))) ∙ sym (sum_cons g x xs)))
+    ∙ (ap (λ n. g x + n) (sum_same f g xs (λ y i. h y (inr i))) ∙ sym (sum_by-cons g x xs)))
 
 sum_map : {A B : Type 0} (f : B → ℕ) (g : A → B) (xs : List A) → sum_by f (map g xs) ≡ sum_by (λ x. f (g x)) xs
 sum_map f g [] = refl
 sum_map f g (x ∷ xs) =
-    sum_cons f (g x) (map g xs) ∙ (ap (λ n. f (g x) + n) (sum_map f g xs) ∙ sym (sum_cons (λ y. f (g y)) x xs))
+    sum_by-cons f (g x) (map g xs) ∙ (ap (λ n. f (g x) + n) (sum_map f g xs) ∙ sym (sum_by-cons (λ y. f (g y)) x xs))
 
 sum_ones : {A : Type 0} (f : A → ℕ) (xs : List A) → ((x : A) → IsIn x xs → f x ≡ 1) → sum_by f xs ≡ length xs
 sum_ones f [] h = refl
 sum_ones f (x ∷ xs) h =
     let rest = sum_ones f xs (λ y i. h y (inr i)) in
     let first = h x (inl refl) in
-    let whole = sum_cons f x xs in omega (arith, rest, first, whole)
+    let whole = sum_by-cons f x xs in omega (arith, rest, first, whole)
 
 -- ---- how many tuples there are
 
@@ -218,8 +212,8 @@ constants_in levels = flat_map rule_constants (joined levels)
 
 joined_more : (done : List (List Rule)) (rules : List Rule) → constants_in (done ++ rules ∷ []) ≡ constants_in done ++ flat_map rule_constants rules
 joined_more done rules =
-    ap (flat_map rule_constants) (flat_map_append (λ (rs : List Rule). rs) done (rules ∷ []) ∙ ap (λ (rs : List Rule). joined done ++ rs) (append-nil rules))
-    ∙ flat_map_append rule_constants (joined done) rules
+    ap (flat_map rule_constants) (flat_map-append (λ (rs : List Rule). rs) done (rules ∷ []) ∙ ap (λ (rs : List Rule). joined done ++ rs) (append-nil rules))
+    ∙ flat_map-append rule_constants (joined done) rules
 
 few_done : (p : Program) → base_too_large p ≡ None → (done : List (List Rule)) (more : List (List Rule)) → level_rules p ≡ done ++ more → length (distinct const_cmp (constants_in done)) ≤ 4096
 few_done p e done more whole =
@@ -254,10 +248,29 @@ levels_counted p checked checkable e done (rules ∷ more) whole =
     ∙ (ap (λ n. level_instances p (at_level (length done + 1) rules) + n)
     (levels_counted p checked checkable e (done ++ rules ∷ []) more next
     ∙ ap (λ n. sum_by (level_instances p) (enumerate_from (n + 1) more)) number)
-    ∙ sym (sum_cons (level_instances p) (at_level (length done + 1) rules) (enumerate_from (length done + 1 + 1) more))))
+    ∙ sym (sum_by-cons (level_instances p) (at_level (length done + 1) rules) (enumerate_from (length done + 1 + 1) more))))
   where
     within : (r : Rule) → IsIn r rules → IsIn r (all_rules p)
     within r i = flat_from (λ (rs : List Rule). rs) (level_rules p) rules r (subst (λ (ls : List (List Rule)). IsIn rules ls) (sym whole) (append_right done (rules ∷ more) rules (inl refl))) i
 
 pub total_counted : (p : Program) → IsTrue (is_checked p) → IsCheckable p → base_too_large p ≡ None → counted_from [] (level_rules p) ≡ instance_total p
 total_counted p checked checkable e = levels_counted p checked checkable e [] (level_rules p) refl
+
+-- ---- the same from the universes of the levels
+
+level_counted : (p : Program) → IsTrue (is_checked p) → IsCheckable p → (level : ℕ × List Rule) → IsIn level (enumerate_from 1 (level_rules p)) → level_count (vocabulary_of p).universes level ≡ level_instances p level
+level_counted p checked checkable level i =
+    let place = placed 1 (level_rules p) level i in
+    let count = levels_long p in
+    let high = place.high in
+    let within : level.0 < last_level p + 1 = omega (arith, count, high) in
+    let size : length (get_or (vocabulary_of p).universes level.0 []) ≡ length (universe p level.0) =
+    ap (λ (rs : List ℕ). length rs) (universe_at p level.0 within) ∙ length-map (universe p level.0) (const_rank (vocabulary_of p).constants) in
+    ap (λ n. sum_by (rule_count n) level.1) size
+    ∙ sum_same (rule_count (length (universe p level.0))) (instance_count (length (universe p level.0))) level.1
+    (λ r j. head_counted (vocabulary_of p) (length (universe p level.0)) r.head r.body
+    (rule_known p checked checkable r (flat_from (λ (rules : List Rule). rules) (level_rules p) level.1 r place.member j)))
+
+pub total_by_universes : (p : Program) → IsTrue (is_checked p) → IsCheckable p → sum_by (level_count (vocabulary_of p).universes) (enumerate_from 1 (level_rules p)) ≡ instance_total p
+total_by_universes p checked checkable =
+    sum_same (level_count (vocabulary_of p).universes) (level_instances p) (enumerate_from 1 (level_rules p)) (level_counted p checked checkable)

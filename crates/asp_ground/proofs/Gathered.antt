@@ -1,14 +1,15 @@
 -- Constants that are gathered in their order.
-use Rattle.std.proofs.Common.{ℕ, ℤ, zero, suc, ◌≡◌, ◌<◌, ◌≤◌, ◌+◌, refl, sym, ◌∙◌, ap, subst, inl, inr, Bool, true, Result, Ok, Err, List, [], ◌∷◌, ◌++◌, map, take, drop, length, get_or, append-nil, arith}
+use Rattle.std.proofs.Common.{ℕ, ℤ, zero, suc, ◌≡◌, ◌<◌, ◌≤◌, ◌+◌, refl, sym, ◌∙◌, ap, subst, inl, inr, Bool, true, Result, Ok, Err, List, [], ◌∷◌, ◌++◌, map, take, drop, length, get_or, arith}
 use Rattle.std.specs.Prelude.{pos, ◌+ℤ◌, if◌then◌else◌, nat_lt}
-use Rattle.std.specs.List.{fold, flat_map, insert}
+use Rattle.std.specs.List.{fold, insert}
 use Rattle.std.specs.List.Sorted.{IsBinarySearchResult, IsSearchInRange}
 use Rattle.std.specs.Ordering.{is_eq}
 use Rattle.std.specs.declared.cmp.Ordering.{Ordering}
 use Rattle.std.specs.declared.cmp.Ordering.TheVariants.{Less, Equal, Greater}
 use Rattle.std.proofs.lemmas.Bool.{lt-ltb}
 use Rattle.std.proofs.lemmas.Cmp.{tied_itself}
-use Rattle.std.proofs.lemmas.List.{get_or-map, length-map, take_more}
+use Rattle.std.proofs.lemmas.List.{get_or-map, length-map, map-append}
+use Rattle.std.proofs.lemmas.List.Sums.{fold-append}
 use Rattle.std.proofs.lemmas.List.Sorted.{searchable_from_sorted}
 use Rattle.asp_defs.specs.declared.ground.Const.{Const}
 use Rattle.asp_defs.specs.declared.ground.Const.TheVariants as const
@@ -26,8 +27,6 @@ use Rattle.asp_atoms.proofs.Settled.{is_equal}
 use Rattle.asp_atoms.proofs.Integers.{integers_more}
 use Rattle.asp_ground.specs.Gaps.{IsAt, Gap, IsPlace, HasAll}
 use Rattle.asp_ground.specs.Counts.{with_constant, Gathers}
-use Rattle.asp_ground.proofs.Products.{flat_map_append}
-use Rattle.asp_ground.proofs.Steps.{map_append, fold_append}
 
 -- ---- a search that reads copies
 
@@ -141,7 +140,7 @@ none old up = record { added = refl; ascending = up }
 
 pub gathers_two : (old middle new : List Const) (xs ys : List Const) → Gathers old middle xs → Gathers middle new ys → Gathers old new (xs ++ ys)
 gathers_two old middle new xs ys first second = record {
-  added = second.added ∙ (ap (λ cs. fold with_constant cs ys) first.added ∙ sym (fold_append with_constant old xs ys));
+  added = second.added ∙ (ap (λ cs. fold with_constant cs ys) first.added ∙ sym (fold-append with_constant old xs ys));
   ascending = second.ascending;
 }
 
@@ -151,15 +150,9 @@ all_there old [] up has = none old up
 all_there old (x ∷ xs) up has =
     gathers_two old old old (x ∷ []) xs (there old x up (has x (inl refl))) (all_there old xs up (λ c i. has c (inr i)))
 
-pub gathers_more : {A : Type 0} (f : A → List Const) (old now next : List Const) (xs : List A) (i : ℕ) (x : A) → i < length xs → x ≡ get_or xs i x → Gathers old now (flat_map f (take i xs)) → Gathers now next (f x) → Gathers old next (flat_map f (take (i + 1) xs))
-gathers_more f old now next xs i x h is so_far step =
-    subst (λ (cs : List Const). Gathers old next cs)
-    (sym (ap (flat_map f) (take_more xs i x h ∙ ap (λ y. take i xs ++ y ∷ []) (sym is)) ∙ (flat_map_append f (take i xs) (x ∷ []) ∙ ap (λ cs. flat_map f (take i xs) ++ cs) (append-nil (f x)))))
-    (gathers_two old now next (flat_map f (take i xs)) (f x) so_far step)
-
 pub gathers_integer : (old now next : List Const) (low : ℤ) (step : ℕ) (x : ℤ) → Gathers old now (map const.Int (integers_from low step)) → Gathers now next (const.Int x ∷ []) → x ≡ low +ℤ pos step → Gathers old next (map const.Int (integers_from low (step + 1)))
 gathers_integer old now next low step x so_far added is =
     subst (λ (cs : List Const). Gathers old next cs)
     (ap (λ (y : ℤ). map const.Int (integers_from low step) ++ const.Int y ∷ []) is
-    ∙ sym (ap (map const.Int) (integers_more low step) ∙ map_append const.Int (integers_from low step) ((low +ℤ pos step) ∷ [])))
+    ∙ sym (ap (map const.Int) (integers_more low step) ∙ map-append const.Int (integers_from low step) ((low +ℤ pos step) ∷ [])))
     (gathers_two old now next (map const.Int (integers_from low step)) (const.Int x ∷ []) so_far added)

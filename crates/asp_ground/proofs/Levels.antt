@@ -1,12 +1,14 @@
 -- The game of a checked program is that of its compiled rules.
-use Rattle.std.proofs.Common.{ℕ, suc, ◌≡◌, ◌<◌, ◌≤◌, ◌+◌, refl, sym, ◌∙◌, ap, subst, inl, inr, Bool, true, Option, Some, None, List, [], ◌∷◌, map, take, length, get_or, arith, zero-add, min}
-use Rattle.std.specs.Prelude.{if◌then◌else◌, IsTrue, is_none}
+use Rattle.std.proofs.Common.{ℕ, suc, ◌≡◌, ◌<◌, ◌≤◌, ◌+◌, refl, sym, ◌∙◌, ap, subst, inl, inr, Bool, Option, Some, None, List, [], ◌∷◌, map, take, length, get_or, arith, zero-add, min}
+use Rattle.std.specs.Prelude.{if◌then◌else◌, IsTrue, is_none, is_some}
 use Rattle.std.specs.List.{flat_map, enumerate_from}
-use Rattle.std.specs.Option.{option_or, option_map}
+use Rattle.std.specs.Option.{option_or}
 use Rattle.std.proofs.lemmas.Bool.{cases_lt, lt-ltb}
 use Rattle.std.proofs.lemmas.List.{get_or-map, take_all, map-id}
 use Rattle.asp_defs.specs.declared.faults.Which.{Which}
 use Rattle.asp_defs.specs.declared.faults.Which.TheVariants as which
+use Rattle.asp_defs.specs.declared.faults.SizeFault.{SizeFault}
+use Rattle.asp_defs.specs.declared.faults.SizeFault.TheVariants as fault
 use Rattle.asp_defs.specs.declared.faults.Var.{Var as ShownVariable}
 use Rattle.asp_defs.specs.declared.ground.Const.{Const}
 use Rattle.asp_defs.specs.declared.syntax.Term.{Term}
@@ -18,23 +20,25 @@ use Rattle.asp_defs.specs.Bases.{Predicate, predicate_cmp, rule_predicates, pred
 use Rattle.asp_defs.specs.Instances.{rule_instances}
 use Rattle.asp_defs.specs.Games.{level_ground, game_of}
 use Rattle.asp_defs.specs.Safety.{all_rules, first_unsafe, first_unsafe_from, unsafe_in, shown_number, shown_variable}
-use Rattle.asp_defs.specs.Limits.{limit, past_limit, most_shown, variable_count, most_arguments, most_literals, most_variables, too_large_in}
-use Rattle.asp_defs.specs.Checks.{CheckRefusal, UnsafeRule, PastLimit, safety_refusal, form_refusal, size_refusal, is_checked}
+use Rattle.asp_defs.specs.Limits.{past_limit, most_shown, variable_count, most_arguments, most_literals, most_variables}
+use Rattle.asp_defs.specs.Sizes.{constant_total, atom_total, instance_total, game_too_large}
+use Rattle.asp_defs.specs.Checks.{safety_refusal, check_refusal, is_checked}
 use Rattle.asp_defs.proofs.Lists.{all_at, map_at, map_from}
 use Rattle.asp_defs.proofs.TextRefutations.{clash}
 use Rattle.asp_check.specs.Condition.{IsCheckable, has_intervals_in_facts}
 use Rattle.asp_check.proofs.Members.{flat_at, flat_from}
 use Rattle.asp_atoms.specs.Ascending.{Ascends}
 use Rattle.asp_atoms.specs.Vocabularies.{const_rank, vocabulary_of}
-use Rattle.asp_atoms.specs.Answers.{base_too_large}
+use Rattle.asp_atoms.specs.Answers.{base_too_large, IsBaseRefusal}
 use Rattle.asp_atoms.proofs.Orders.{const_lawful, predicate_lawful}
 use Rattle.asp_atoms.proofs.Ascending.{ascends_distinct, in_distinct, distinct_from}
 use Rattle.asp_atoms.proofs.Assembling.{number_reads}
 use Rattle.asp_atoms.proofs.Choosing.{unnumbered_all}
-use Rattle.asp_atoms.proofs.Counting.{levels_long, within_limit, second_none, limit_kept, max_member}
+use Rattle.asp_atoms.proofs.Counting.{levels_long, not_large, no_one, unmapped, within_limit, first_none, second_none, limit_kept, max_member}
 use Rattle.asp_atoms.proofs.Gathering.{few_constants, few_atoms}
 use Rattle.asp_atoms.proofs.Levels.{get_number, length_numbers}
 use Rattle.asp_ground.specs.Ranks.{IsOrdered}
+use Rattle.asp_ground.specs.Faults.{IsGameRefusal, IsInstanceFault}
 use Rattle.asp_ground.specs.Compiled.{compiled_instances, level_instances, compiled_levels}
 use Rattle.asp_ground.proofs.Members.{in_take}
 use Rattle.asp_atoms.proofs.Choosing.{flat_map_agrees}
@@ -70,6 +74,50 @@ past_cut count shown e = elim (cases_lt 4000000 count) [
   | inr within ↦
       limit_kept which.Instances shown (omega (arith, e, within)) ∙ sym (limit_kept which.Instances count within)
 ]
+
+-- a game that keeps the limits has bases that keep theirs, and few instances
+without_third : {A : Type 0} (a b c : Option A) → option_or a (option_or b c) ≡ None → option_or a b ≡ None
+without_third None b c e = first_none b c e
+without_third (Some x) b c e = e
+
+third_alone : {A : Type 0} (a b c d : Option A) → option_or a b ≡ None → option_or a (option_or b c) ≡ d → c ≡ d
+third_alone None None c d e f = f
+third_alone None (Some x) c d e f = clash (ap is_none e)
+third_alone (Some x) b c d e f = clash (ap is_none e)
+
+pub few_in_bases : (p : Program) → game_too_large p ≡ None → base_too_large p ≡ None
+few_in_bases p e =
+    without_third (past_limit which.Constants (constant_total p)) (past_limit which.Atoms (atom_total p)) (past_limit which.Instances (instance_total p)) e
+
+pub few_instances : (p : Program) → game_too_large p ≡ None → past_limit which.Instances (instance_total p) ≡ None
+few_instances p e = second_none (past_limit which.Atoms (atom_total p)) _ (second_none (past_limit which.Constants (constant_total p)) _ e)
+
+-- where the bases keep their limits, it is for its instances that a game is refused
+pub instance_fault : (p : Program) (fault : SizeFault) → base_too_large p ≡ None → IsGameRefusal p fault → IsInstanceFault p fault
+instance_fault p (fault.TooLarge found count) e h =
+    third_alone (past_limit which.Constants (constant_total p)) (past_limit which.Atoms (atom_total p)) (past_limit which.Instances (instance_total p)) (Some (found, count)) e h
+instance_fault p fault.NoMemory e h = tt
+
+-- a refusal of the bases is one of the game
+with_second : {A : Type 0} (a b c : Option A) (x : A) → option_or a b ≡ Some x → option_or a (option_or b c) ≡ Some x
+with_second None None c x e = clash (ap is_some e)
+with_second None (Some y) c x e = e
+with_second (Some y) b c x e = e
+
+pub base_refusal : (p : Program) (fault : SizeFault) → IsBaseRefusal p fault → IsGameRefusal p fault
+base_refusal p (fault.TooLarge found count) h =
+    with_second (past_limit which.Constants (constant_total p)) (past_limit which.Atoms (atom_total p)) (past_limit which.Instances (instance_total p)) (found, count) h
+base_refusal p fault.NoMemory h = tt
+
+-- and so is one of the instances
+with_third : {A : Type 0} (a b c d : Option A) → option_or a b ≡ None → c ≡ d → option_or a (option_or b c) ≡ d
+with_third None None c d e f = f
+with_third None (Some x) c d e f = clash (ap is_none e)
+with_third (Some x) b c d e f = clash (ap is_none e)
+
+pub game_by_instances : (p : Program) (found : Option (Which × ℕ)) → base_too_large p ≡ None → past_limit which.Instances (instance_total p) ≡ found → game_too_large p ≡ found
+game_by_instances p found e f =
+    with_third (past_limit which.Constants (constant_total p)) (past_limit which.Atoms (atom_total p)) (past_limit which.Instances (instance_total p)) found e f
 
 record Small (p : Program) : Type 0 where
   constants : length (vocabulary_of p).constants ≤ 4294967295
@@ -119,26 +167,16 @@ safe_each n [] h r i = absurd i
 safe_each n (x ∷ rules) h r i =
     safe_first n x rules r (first_unsafe x) refl h i (λ k j. safe_each (suc n) rules k r j)
 
-none_found : (found : Option (ℕ × ShownVariable)) (rest : Option CheckRefusal) → is_none (option_or (option_map (λ f. UnsafeRule f.0 f.1) found) rest) ≡ true → found ≡ None
-none_found None rest h = refl
-none_found (Some f) rest h = clash h
+none_unsafe : (p : Program) → IsTrue (is_checked p) → unsafe_in p ≡ None
+none_unsafe p checked = unmapped _ (unsafe_in p) (first_none (safety_refusal p) _ (no_one (check_refusal p) checked))
 
 -- no rule has more variables than the limit allows
-none_behind : (a b : Option CheckRefusal) → is_none (option_or a b) ≡ true → is_none b ≡ true
-none_behind None b h = h
-none_behind (Some x) b h = clash h
-
-none_large : (found : Option (Which × ℕ)) → is_none (option_map (λ f. PastLimit f.0 f.1) found) ≡ true → found ≡ None
-none_large None h = refl
-none_large (Some f) h = clash h
-
 few_variables : (p : Program) → IsTrue (is_checked p) → (r : Rule) → IsIn r (all_rules p) → variable_count r ≤ 16
 few_variables p checked r i =
-    let none = none_large (too_large_in p) (none_behind (form_refusal p) (size_refusal p) (none_behind (safety_refusal p) (option_or (form_refusal p) (size_refusal p)) checked)) in
-    let first = second_none (past_limit which.Levels (length p.levels)) (option_or (past_limit which.Arguments (most_arguments p)) (option_or (past_limit which.Literals (most_literals p)) (past_limit which.Variables (most_variables p)))) none in
-    let second = second_none (past_limit which.Arguments (most_arguments p)) (option_or (past_limit which.Literals (most_literals p)) (past_limit which.Variables (most_variables p))) first in
-    let third = second_none (past_limit which.Literals (most_literals p)) (past_limit which.Variables (most_variables p)) second in
-    let most : most_variables p ≤ 16 = within_limit which.Variables (most_variables p) third in
+    let few : past_limit which.Variables (most_variables p) ≡ None =
+    second_none (past_limit which.Literals (most_literals p)) _
+    (second_none (past_limit which.Arguments (most_arguments p)) _ (second_none (past_limit which.Levels (length p.levels)) _ (not_large p checked))) in
+    let most : most_variables p ≤ 16 = within_limit which.Variables (most_variables p) few in
     let here : variable_count r ≤ most_variables p = max_member 0 (map variable_count (all_rules p)) (variable_count r) (map_from variable_count (all_rules p) r i) in
     omega (arith, most, here)
 
@@ -149,13 +187,13 @@ rule_known p checked checkable r i = record {
       subst (λ (qs : List Predicate). IsIn q qs) (sym (unnumbered_all (length (vocabulary_of p).constants) 0 (predicates p (last_level p))))
       (predicate_known p r q i j);
   intervals = all_at has_intervals_in_facts (all_rules p) r checkable.intervals i;
-  safe = safe_each 1 (all_rules p) (none_found (unsafe_in p) (option_or (form_refusal p) (size_refusal p)) checked) r i;
+  safe = safe_each 1 (all_rules p) (none_unsafe p checked) r i;
   few = few_variables p checked r i;
 }
 
 -- ---- universes
 
-universe_at : (p : Program) (i : ℕ) → i < last_level p + 1 → get_or (vocabulary_of p).universes i [] ≡ map (const_rank (vocabulary_of p).constants) (universe p i)
+pub universe_at : (p : Program) (i : ℕ) → i < last_level p + 1 → get_or (vocabulary_of p).universes i [] ≡ map (const_rank (vocabulary_of p).constants) (universe p i)
 universe_at p i h =
     let count = length_numbers 0 (last_level p + 1) in
     get_or-map (λ j. map (const_rank (vocabulary_of p).constants) (universe p j)) (numbers_from 0 (last_level p + 1)) i 0 [] (omega (arith, count))
@@ -188,12 +226,12 @@ ranked_at p i h = record {
 
 -- ---- levels
 
-record Placed (k : ℕ) (levels : List (List Rule)) (level : ℕ × List Rule) : Type 0 where
-  low : k ≤ level.0
-  high : level.0 < k + length levels
-  member : IsIn level.1 levels
+pub record Placed (k : ℕ) (levels : List (List Rule)) (level : ℕ × List Rule) : Type 0 where
+  pub low : k ≤ level.0
+  pub high : level.0 < k + length levels
+  pub member : IsIn level.1 levels
 
-placed : (k : ℕ) (levels : List (List Rule)) (level : ℕ × List Rule) → IsIn level (enumerate_from k levels) → Placed k levels level
+pub placed : (k : ℕ) (levels : List (List Rule)) (level : ℕ × List Rule) → IsIn level (enumerate_from k levels) → Placed k levels level
 placed k [] level i = absurd i
 placed k (rules ∷ levels) level (inl e) =
     let number : level.0 ≡ k = ap (λ (l : ℕ × List Rule). l.0) e in

@@ -9,7 +9,8 @@ use Rattle.asp_defs.specs.Instances.{same_variable, first_occurrences}
 use Rattle.asp_defs.specs.Safety.{is_variable_of}
 use Rattle.asp_defs.proofs.Lists.{any_at, any_from, filter_at, filter_from, true_or_false, not_true, not_false, append_left, or_left, or_right}
 use Rattle.asp_defs.proofs.TextRefutations.{clash}
-use Rattle.asp_check.proofs.Members.{equal, same_truth}
+use Rattle.asp_defs.proofs.SafetyLaws.{equal}
+use Rattle.asp_check.proofs.Members.{same_truth}
 use Rattle.asp_check.proofs.Occurrences.{occurrences_more, others_few}
 use Rattle.asp_check.proofs.Occurrences.{others, same_back}
 use Rattle.asp_ground.specs.Variables.{with_variable}

@@ -25,7 +25,7 @@ use Rattle.asp_defs.specs.Limits.{variable_count}
 use Rattle.asp_defs.proofs.Lists.{both, all_at, append_at, append_left, append_right, map_from, or_left}
 use Rattle.asp_check.specs.Condition.{is_single, is_single_atom, is_single_literal, is_single_element, is_single_head, has_intervals_in_facts}
 use Rattle.asp_check.proofs.Members.{flat_at, flat_from}
-use Rattle.asp_check.proofs.Safe.{same_self}
+use Rattle.asp_defs.proofs.SafetyLaws.{itself as same_self}
 use Rattle.asp_atoms.specs.declared.vocabularies.Vocabulary.{Vocabulary}
 use Rattle.asp_atoms.specs.Vocabularies.{unnumbered}
 use Rattle.asp_ground.proofs.Parts.{make_rule, disjunctive_written, element_written, all_instances, suc_is_not, more_is_not}

@@ -23,7 +23,7 @@ use Rattle.asp_defs.proofs.TextRefutations.{clash}
 use Rattle.asp_check.specs.Condition.{is_single, is_single_atom, is_single_literal}
 use Rattle.asp_check.proofs.Members.{flat_at, flat_from}
 use Rattle.asp_check.proofs.Steps.{get_is_in}
-use Rattle.asp_check.proofs.Safe.{same_self}
+use Rattle.asp_defs.proofs.SafetyLaws.{itself as same_self}
 use Rattle.asp_ground.proofs.Parts.{make_predicate}
 use Rattle.asp_ground.proofs.Products.{tuple_length, tuple_member, in_replicate}
 use Rattle.asp_ground.proofs.Occurrences.{any_place}

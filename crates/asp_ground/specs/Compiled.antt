@@ -1,9 +1,10 @@
 -- The templates of a rule, and the instances that they give (of this project). All definitions are transparent.
-use Rattle.std.specs.Prelude.{ℕ, if◌then◌else◌, Bool, false, ◌&&◌, ◌==◌, List, [], ◌∷◌, map, length, get_or, replicate}
+use Rattle.std.specs.Prelude.{ℕ, if◌then◌else◌, Bool, false, ◌&&◌, ◌==◌, List, [], ◌∷◌, ◌++◌, map, length, get_or, replicate}
 use Rattle.std.specs.List.{flat_map, position_or_len, enumerate_from}
 use Rattle.asp_defs.specs.declared.ground.Const.{Const}
 use Rattle.asp_defs.specs.declared.ground.Const.TheVariants as const
 use Rattle.asp_defs.specs.declared.ground.GroundRule.{GroundRule}
+use Rattle.asp_defs.specs.declared.syntax.Op.{Op}
 use Rattle.asp_defs.specs.declared.syntax.Term.{Term}
 use Rattle.asp_defs.specs.declared.syntax.Term.TheVariants.{Int, Sym, Var, Anon, Range}
 use Rattle.asp_defs.specs.declared.syntax.Atom.{Atom}
@@ -41,20 +42,50 @@ atom_template v variables a = record {
   slots = map (slot_of v.constants variables) a.args;
 }
 
+abbrev pub comparison : List Const → List Term → Term → Op → Term → Comparison
+comparison constants variables x op y =
+    record { left = slot_of constants variables x; op = op; right = slot_of constants variables y }
+
 abbrev pub comparisons_of : List Const → List Term → Literal → List Comparison
 comparisons_of constants variables (Pos a) = []
 comparisons_of constants variables (Neg a) = []
-comparisons_of constants variables (Cmp x op y) =
-    record { left = slot_of constants variables x; op = op; right = slot_of constants variables y } ∷ []
+comparisons_of constants variables (Cmp x op y) = comparison constants variables x op y ∷ []
+
+-- the template of a head and of literals, and one with a literal more
+abbrev pub compiled : Vocabulary → List Term → Bool → List AtomTemplate → List Literal → Template
+compiled v variables choice heads literals = record {
+  choice = choice;
+  heads = heads;
+  comparisons = flat_map (comparisons_of v.constants variables) literals;
+  pos = map (atom_template v variables) (flat_map pos_atoms literals);
+  neg = map (atom_template v variables) (flat_map neg_atoms literals);
+}
+
+abbrev pub with_literal : Vocabulary → List Term → Template → Literal → Template
+with_literal v variables t (Pos a) = record {
+  choice = t.choice;
+  heads = t.heads;
+  comparisons = t.comparisons;
+  pos = t.pos ++ atom_template v variables a ∷ [];
+  neg = t.neg;
+}
+with_literal v variables t (Neg a) = record {
+  choice = t.choice;
+  heads = t.heads;
+  comparisons = t.comparisons;
+  pos = t.pos;
+  neg = t.neg ++ atom_template v variables a ∷ [];
+}
+with_literal v variables t (Cmp x op y) = record {
+  choice = t.choice;
+  heads = t.heads;
+  comparisons = t.comparisons ++ comparison v.constants variables x op y ∷ [];
+  pos = t.pos;
+  neg = t.neg;
+}
 
 abbrev pub template_of : Vocabulary → Schema → Template
-template_of v s = record {
-  choice = s.choice;
-  heads = map (atom_template v s.variables) s.heads;
-  comparisons = flat_map (comparisons_of v.constants s.variables) s.body;
-  pos = map (atom_template v s.variables) (flat_map pos_atoms s.body);
-  neg = map (atom_template v s.variables) (flat_map neg_atoms s.body);
-}
+template_of v s = compiled v s.variables s.choice (map (atom_template v s.variables) s.heads) s.body
 
 -- the instances of a schema, each of whose variables runs through the same ranks
 abbrev pub schema_instances : Vocabulary → List ℕ → Schema → List GroundRule

@@ -46,6 +46,10 @@ head_count size (Choice elements) body = sum_by (λ e. size ^ length (element_va
 abbrev pub rule_count : ℕ → Rule → ℕ
 rule_count size r = head_count size r.head r.body
 
+-- how many instances a level has, where the levels have universes of these ranks
+abbrev pub level_count : List (List ℕ) → (ℕ × List Rule) → ℕ
+level_count universes level = sum_by (rule_count (length (get_or universes level.0 []))) level.1
+
 -- how many instances levels have, where these constants were found before them
 abbrev pub counted_from : List Const → List (List Rule) → ℕ
 counted_from found [] = 0

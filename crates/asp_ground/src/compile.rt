@@ -1,19 +1,19 @@
 //! The template of a rule.
-ghost use Rattle.std.specs.Prelude.{◌≡◌, ◌++◌, map, IfOk, OnOk};
-ghost use Rattle.std.specs.List.{flat_map, position_or_len};
+ghost use Rattle.std.specs.Prelude.{◌≡◌, ◌∷◌, ◌++◌, [], map, IfOk, OnOk};
+ghost use Rattle.std.specs.List.{fold, position_or_len};
 ghost use Rattle.asp_defs.specs.Constants.{const_cmp};
-ghost use Rattle.asp_defs.specs.Instances.{same_variable, pos_atoms, neg_atoms};
+ghost use Rattle.asp_defs.specs.Instances.{same_variable};
 ghost use Rattle.asp_check.specs.Variables.{term_of};
 ghost use Rattle.asp_atoms.specs.Ascending.{Ascends};
 ghost use Rattle.asp_ground.specs.Ranks.{IsOrdered};
-ghost use Rattle.asp_ground.specs.Compiled.{slot_of, atom_template, comparisons_of};
+ghost use Rattle.asp_ground.specs.Compiled.{slot_of, atom_template, comparison, with_literal, compiled};
 
 use crate::ranks::{first_of, rank_of};
 use crate::template::{AtomTemplate, Comparison, Slot, Template};
 use crate::variables::is_same;
 use asp_atoms::{Key, Vocabulary};
 use asp_check::Variable;
-use asp_defs::{Atom, Const, List, Literal, NoMemory, Term};
+use asp_defs::{Atom, Const, List, Literal, NoMemory, Op, Term};
 use std::alloc::Global;
 
 /// The place of a variable in a list, or the list's length where it is none of them.
@@ -97,64 +97,90 @@ pub fn atom_templates(
     Ok(List::from_vec(templates))
 }
 
-/// Adds the comparisons of literals.
-fn add_comparisons(
-    out: &mut Vec<Comparison>,
+/// A list of one template.
+pub fn single(alloc: Global, template: AtomTemplate) -> Result<List<AtomTemplate>, NoMemory>
+    ensures { IfOk result (λ templates. templates ≡ template ∷ []) }
+{
+    let mut templates = List::new(alloc);
+    templates.push(template)?;
+    Ok(templates)
+}
+
+/// The template of a head without a body.
+pub fn bare(alloc: Global, choice: bool, heads: List<AtomTemplate>) -> Template
+    ensures { result ≡ record { choice = choice; heads = heads; comparisons = []; pos = []; neg = [] } }
+{
+    Template {
+        choice,
+        heads,
+        comparisons: List::new(alloc),
+        pos: List::new(alloc),
+        neg: List::new(alloc),
+    }
+}
+
+/// A comparison of terms as one of slots.
+fn comparison(
     constants: &[Const],
     variables: &[Variable<'_>],
-    literals: &[Literal],
-) -> Result<(), NoMemory>
+    left: &Term,
+    op: Op,
+    right: &Term,
+) -> Comparison
     requires { Ascends const_cmp constants.now }
-    ensures { OnOk result (out.new.items ≡ out.old.items
-        ++ flat_map (comparisons_of constants.now (map term_of variables.now)) literals.now) }
+    ensures { result ≡ comparison constants.now (map term_of variables.now) left.now op right.now }
 {
-    for literal in literals {
-        if let Literal::Cmp(left, op, right) = literal {
-            let left = slot_of(constants, variables, left);
-            let right = slot_of(constants, variables, right);
-            let op = *op;
-            out.push(Comparison { left, op, right })?;
+    Comparison {
+        left: slot_of(constants, variables, left),
+        op,
+        right: slot_of(constants, variables, right),
+    }
+}
+
+/// Adds a literal to a template's body.
+fn add_literal(
+    alloc: Global,
+    template: &mut Template,
+    vocabulary: &Vocabulary,
+    variables: &[Variable<'_>],
+    literal: &Literal,
+) -> Result<(), NoMemory>
+    requires { IsOrdered vocabulary.now }
+    ensures { OnOk result (template.new
+        ≡ with_literal vocabulary.now (map term_of variables.now) template.old literal.now) }
+{
+    match literal {
+        Literal::Pos(atom) => {
+            let atom = atom_template(alloc, vocabulary, variables, atom)?;
+            template.pos.push(atom)?;
+        }
+        Literal::Neg(atom) => {
+            let atom = atom_template(alloc, vocabulary, variables, atom)?;
+            template.neg.push(atom)?;
+        }
+        Literal::Cmp(left, op, right) => {
+            let constants = vocabulary.constants.as_slice();
+            let comparison = comparison(constants, variables, left, *op, right);
+            template.comparisons.push(comparison)?;
         }
     }
     Ok(())
 }
 
-/// Adds the templates of the positive atoms of literals.
-fn add_positives(
+/// Adds literals to a template's body.
+fn add_literals(
     alloc: Global,
-    out: &mut Vec<AtomTemplate>,
+    template: &mut Template,
     vocabulary: &Vocabulary,
     variables: &[Variable<'_>],
     literals: &[Literal],
 ) -> Result<(), NoMemory>
     requires { IsOrdered vocabulary.now }
-    ensures { OnOk result (out.new.items ≡ out.old.items
-        ++ map (atom_template vocabulary.now (map term_of variables.now)) (flat_map pos_atoms literals.now)) }
+    ensures { OnOk result (template.new
+        ≡ fold (with_literal vocabulary.now (map term_of variables.now)) template.old literals.now) }
 {
     for literal in literals {
-        if let Literal::Pos(atom) = literal {
-            out.push(atom_template(alloc, vocabulary, variables, atom)?)?;
-        }
-    }
-    Ok(())
-}
-
-/// Adds the templates of the negative atoms of literals.
-fn add_negatives(
-    alloc: Global,
-    out: &mut Vec<AtomTemplate>,
-    vocabulary: &Vocabulary,
-    variables: &[Variable<'_>],
-    literals: &[Literal],
-) -> Result<(), NoMemory>
-    requires { IsOrdered vocabulary.now }
-    ensures { OnOk result (out.new.items ≡ out.old.items
-        ++ map (atom_template vocabulary.now (map term_of variables.now)) (flat_map neg_atoms literals.now)) }
-{
-    for literal in literals {
-        if let Literal::Neg(atom) = literal {
-            out.push(atom_template(alloc, vocabulary, variables, atom)?)?;
-        }
+        add_literal(alloc, template, vocabulary, variables, literal)?;
     }
     Ok(())
 }
@@ -170,30 +196,11 @@ pub fn compile(
     cond: &[Literal],
 ) -> Result<Template, NoMemory>
     requires { IsOrdered vocabulary.now }
-    ensures { IfOk result (λ template. template ≡ record {
-      choice = choice;
-      heads = heads;
-      comparisons =
-          flat_map (comparisons_of vocabulary.now.constants (map term_of variables.now)) (body.now ++ cond.now);
-      pos = map (atom_template vocabulary.now (map term_of variables.now)) (flat_map pos_atoms (body.now ++ cond.now));
-      neg = map (atom_template vocabulary.now (map term_of variables.now)) (flat_map neg_atoms (body.now ++ cond.now));
-    }) }
+    ensures { IfOk result (λ template. template
+        ≡ compiled vocabulary.now (map term_of variables.now) choice heads (body.now ++ cond.now)) }
 {
-    let constants = vocabulary.constants.as_slice();
-    let mut comparisons = Vec::new(alloc);
-    add_comparisons(&mut comparisons, constants, variables, body)?;
-    add_comparisons(&mut comparisons, constants, variables, cond)?;
-    let mut pos = Vec::new(alloc);
-    add_positives(alloc, &mut pos, vocabulary, variables, body)?;
-    add_positives(alloc, &mut pos, vocabulary, variables, cond)?;
-    let mut neg = Vec::new(alloc);
-    add_negatives(alloc, &mut neg, vocabulary, variables, body)?;
-    add_negatives(alloc, &mut neg, vocabulary, variables, cond)?;
-    Ok(Template {
-        choice,
-        heads,
-        comparisons: List::from_vec(comparisons),
-        pos: List::from_vec(pos),
-        neg: List::from_vec(neg),
-    })
+    let mut template = bare(alloc, choice, heads);
+    add_literals(alloc, &mut template, vocabulary, variables, body)?;
+    add_literals(alloc, &mut template, vocabulary, variables, cond)?;
+    Ok(template)
 }

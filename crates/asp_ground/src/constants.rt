@@ -2,15 +2,7 @@
 //! array.
 ghost use Rattle.std.specs.Prelude.{IsTrue, [], ◌∷◌, ◌+◌, ◌<◌, length, map};
 ghost use Rattle.std.specs.List.{flat_map};
-ghost use Rattle.asp_defs.specs.Constants.{
-  const_cmp,
-  term_constants,
-  atom_constants,
-  literal_constants,
-  element_constants,
-  head_constants,
-  rule_constants,
-};
+ghost use Rattle.asp_defs.specs.Constants.{const_cmp, term_constants, rule_constants};
 ghost use Rattle.asp_atoms.specs.Ascending.{Ascends};
 ghost use Rattle.asp_atoms.specs.Keys.{const_of};
 ghost use Rattle.asp_ground.specs.Gaps.{IsIntegerAt, HasAll, IsPlace};
@@ -18,7 +10,8 @@ ghost use Rattle.asp_ground.specs.Counts.{Gathers};
 
 use arrayvec::ArrayVec;
 use asp_atoms::{Key, compare_keys, interval_length, stepped};
-use asp_defs::{Atom, Element, Head, Literal, Rule, Term};
+use asp_defs::{Rule, Term};
+use asp_walk::Terms;
 
 /// Room for one more constant than a program with bases has at most.
 const CONSTANT_ROOM: usize = 4097;
@@ -105,92 +98,14 @@ fn add_term<'a>(found: &mut Constants<'a>, term: &'a Term)
     }
 }
 
-/// Adds the constants of an atom.
-fn add_atom<'a>(found: &mut Constants<'a>, atom: &'a Atom)
-    requires { Ascends const_cmp (map const_of found.old.items) }
-    ensures { Gathers (map const_of found.old.items) (map const_of found.new.items) (atom_constants atom.now) }
-{
-    let args = atom.args.as_slice();
-    for term in args {
-        add_term(found, term);
-    }
-}
-
-/// Adds the constants of a literal.
-fn add_literal<'a>(found: &mut Constants<'a>, literal: &'a Literal)
-    requires { Ascends const_cmp (map const_of found.old.items) }
-    ensures { Gathers (map const_of found.old.items) (map const_of found.new.items) (literal_constants literal.now) }
-{
-    match literal {
-        Literal::Pos(atom) => add_atom(found, atom),
-        Literal::Neg(atom) => add_atom(found, atom),
-        Literal::Cmp(left, _, right) => {
-            add_term(found, left);
-            add_term(found, right);
-        }
-    }
-}
-
-/// Adds the constants of literals.
-fn add_literals<'a>(found: &mut Constants<'a>, literals: &'a [Literal])
-    requires { Ascends const_cmp (map const_of found.old.items) }
-    ensures { Gathers (map const_of found.old.items) (map const_of found.new.items)
-        (flat_map literal_constants literals.now) }
-{
-    for literal in literals {
-        add_literal(found, literal);
-    }
-}
-
-/// Adds the constants of atoms.
-fn add_atoms<'a>(found: &mut Constants<'a>, atoms: &'a [Atom])
-    requires { Ascends const_cmp (map const_of found.old.items) }
-    ensures { Gathers (map const_of found.old.items) (map const_of found.new.items)
-        (flat_map atom_constants atoms.now) }
-{
-    for atom in atoms {
-        add_atom(found, atom);
-    }
-}
-
-/// Adds the constants of an element.
-fn add_element<'a>(found: &mut Constants<'a>, element: &'a Element)
-    requires { Ascends const_cmp (map const_of found.old.items) }
-    ensures { Gathers (map const_of found.old.items) (map const_of found.new.items) (element_constants element.now) }
-{
-    add_atom(found, &element.atom);
-    add_literals(found, element.cond.as_slice());
-}
-
-/// Adds the constants of elements.
-fn add_elements<'a>(found: &mut Constants<'a>, elements: &'a [Element])
-    requires { Ascends const_cmp (map const_of found.old.items) }
-    ensures { Gathers (map const_of found.old.items) (map const_of found.new.items)
-        (flat_map element_constants elements.now) }
-{
-    for element in elements {
-        add_element(found, element);
-    }
-}
-
-/// Adds the constants of a head.
-fn add_head<'a>(found: &mut Constants<'a>, head: &'a Head)
-    requires { Ascends const_cmp (map const_of found.old.items) }
-    ensures { Gathers (map const_of found.old.items) (map const_of found.new.items) (head_constants head.now) }
-{
-    match head {
-        Head::Disj(atoms) => add_atoms(found, atoms.as_slice()),
-        Head::Choice(elements) => add_elements(found, elements.as_slice()),
-    }
-}
-
 /// Adds the constants of a rule.
 fn add_rule<'a>(found: &mut Constants<'a>, rule: &'a Rule)
     requires { Ascends const_cmp (map const_of found.old.items) }
     ensures { Gathers (map const_of found.old.items) (map const_of found.new.items) (rule_constants rule.now) }
 {
-    add_head(found, &rule.head);
-    add_literals(found, rule.body.as_slice());
+    for term in Terms::of_rule(rule) {
+        add_term(found, term);
+    }
 }
 
 /// Adds the constants of rules.

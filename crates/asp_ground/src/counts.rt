@@ -6,15 +6,17 @@ ghost use Rattle.asp_defs.specs.Limits.{most_shown};
 ghost use Rattle.asp_defs.specs.Sizes.{instance_total};
 ghost use Rattle.asp_atoms.specs.Answers.{base_too_large};
 ghost use Rattle.asp_atoms.specs.Counts.{shown};
+ghost use Rattle.asp_atoms.specs.Vocabularies.{vocabulary_of};
 ghost use Rattle.asp_ground.specs.Variables.{element_variables};
-ghost use Rattle.asp_ground.specs.Counts.{choice_count, fact_count, head_count, rule_count};
+ghost use Rattle.asp_ground.specs.Counts.{choice_count, fact_count, head_count, rule_count, level_count};
 
 use crate::constants::{Constants, add_rules};
+use crate::rules::universe_of;
 use crate::variables::{disjunctive_variables, element_variables};
 use asp_atoms::counts::{power, product, sum};
-use asp_atoms::interval_length;
+use asp_atoms::{Vocabulary, interval_length};
 use asp_check::Checked;
-use asp_defs::{Atom, Bases, Element, Head, Literal, Rule, Term};
+use asp_defs::{Atom, Bases, Element, Head, List, Literal, Rule, Term};
 
 /// For how many terms an argument stands.
 fn choice_count(term: &Term) -> u64
@@ -85,17 +87,49 @@ fn rules_count(size: u64, rules: &[Rule]) -> u64
     count
 }
 
-/// How many instances a program has, before comparisons are looked at: at most 10^18 is answered. Takes no memory. The
-/// program's constants and atoms keep their limits, as `bases` or `atom_count` tells.
-///
-/// No base is needed: the constants are gathered from the program, each by a search among those that are there, of which a
-/// program with bases has at most 4,096. An interval all of whose integers are there costs one search. Each other one is
-/// walked and adds a constant, so that all walks together have less than 2^24 steps, and the rest of the time is linear in
-/// the program but for these searches.
-pub fn instance_count(checked: &Checked) -> u64
-    requires { base_too_large checked.now ≡ None }
+/// How many instances the rules of a level have.
+fn level_count(universes: &[List<u32>], level: usize, rules: &[Rule]) -> u64
+    ensures { result ≡ shown (level_count universes.now (level, rules.now)) }
+{
+    rules_count(universe_of(universes, level).len() as u64, rules)
+}
+
+/// How many instances a program has whose vocabulary is known, before comparisons are looked at: at most 10^18 is
+/// answered. Takes no memory, and time that is linear in the program.
+pub fn instance_count(checked: &Checked, vocabulary: &Vocabulary) -> u64
+    requires known { vocabulary.now ≡ vocabulary_of checked.now }
+    requires small { base_too_large checked.now ≡ None }
     ensures { result ≡ min (instance_total checked.now) most_shown }
 {
+    let program = checked.program();
+    let levels = program.levels.as_slice();
+    let universes = vocabulary.universes.as_slice();
+    let mut count = 0_u64;
+    for (place, level) in levels.iter().enumerate() {
+        count = sum(
+            count,
+            level_count(universes, place + 1, level.rules.as_slice()),
+        );
+    }
+    sum(
+        count,
+        level_count(universes, levels.len() + 1, program.cons.as_slice()),
+    )
+}
+
+/// How many instances a program has, as `instance_count` says. The bases are those that `bases` answered of the program;
+/// nothing in them is looked at. Takes no memory.
+///
+/// The constants are gathered from the program, each by a search among those that are there, of which a program with bases
+/// has at most 4,096. An interval all of whose integers are there costs one search. Each other one is walked and adds a
+/// constant, so that all walks together have less than 2^24 steps, and the rest of the time is linear in the program but
+/// for these searches.
+pub fn count(checked: &Checked, bases: &Bases) -> u64
+    requires bases { bases.now ≡ bases_of checked.now }
+    requires small { base_too_large checked.now ≡ None }
+    ensures { result ≡ min (instance_total checked.now) most_shown }
+{
+    let _ = bases;
     let program = checked.program();
     let levels = program.levels.as_slice();
     let mut found = Constants::new();
@@ -108,15 +142,4 @@ pub fn instance_count(checked: &Checked) -> u64
     let cons = program.cons.as_slice();
     add_rules(&mut found, cons);
     sum(count, rules_count(found.len() as u64, cons))
-}
-
-/// How many instances a program has, as `instance_count` says. The bases are those that `bases` answered of the program;
-/// nothing in them is looked at.
-pub fn count(checked: &Checked, bases: &Bases) -> u64
-    requires bases { bases.now ≡ bases_of checked.now }
-    requires small { base_too_large checked.now ≡ None }
-    ensures { result ≡ min (instance_total checked.now) most_shown }
-{
-    let _ = bases;
-    instance_count(checked)
 }

@@ -6,6 +6,8 @@ ghost use Rattle.asp_atoms.specs.Ascending.{Ascends};
 ghost use Rattle.asp_ground.specs.Ranks.{IsOrdered};
 ghost use Rattle.asp_ground.specs.Compiled.{argument_ranks, fact_template, fact_instances};
 
+use crate::compile::{bare, single};
+use crate::domains::Domains;
 use crate::instances::add_all;
 use crate::ranks::{capped, first_of, rank_of};
 use crate::template::{AtomTemplate, Slot, Template};
@@ -63,17 +65,6 @@ fn all_argument_ranks(
     Ok(List::from_vec(ranks))
 }
 
-/// The slices of lists.
-fn slices(alloc: Global, lists: &[List<u32>]) -> Result<Vec<&[u32]>, NoMemory>
-    ensures { IfOk result (λ slices. map (λ s. s.now) slices.items ≡ lists.now) }
-{
-    let mut slices = Vec::with_capacity(alloc, lists.len())?;
-    for list in lists {
-        slices.push(list.as_slice())?;
-    }
-    Ok(slices)
-}
-
 /// As many variables as asked for, in their order.
 fn variables(alloc: Global, count: usize) -> Result<List<Slot>, NoMemory>
     ensures { IfOk result (λ slots. slots ≡ map Slot.Variable (numbers_from 0 count)) }
@@ -97,15 +88,8 @@ fn fact_template(alloc: Global, vocabulary: &Vocabulary, atom: &Atom) -> Result<
         args.len(),
     );
     let slots = variables(alloc, args.len())?;
-    let mut heads = List::new(alloc);
-    heads.push(AtomTemplate { first, slots })?;
-    Ok(Template {
-        choice: false,
-        heads,
-        comparisons: List::new(alloc),
-        pos: List::new(alloc),
-        neg: List::new(alloc),
-    })
+    let heads = single(alloc, AtomTemplate { first, slots })?;
+    Ok(bare(alloc, false, heads))
 }
 
 /// Adds the instances of a fact.
@@ -121,12 +105,6 @@ pub fn add_fact(
     let constants = vocabulary.constants.as_slice();
     let template = fact_template(alloc, vocabulary, atom)?;
     let ranks = all_argument_ranks(alloc, constants, atom.args.as_slice())?;
-    let domains = slices(alloc, ranks.as_slice())?;
-    add_all(
-        alloc,
-        out,
-        capped(constants.len()),
-        &template,
-        domains.as_slice(),
-    )
+    let size = capped(constants.len());
+    add_all(alloc, out, size, &template, Domains::Each(ranks.as_slice()))
 }

@@ -1,11 +1,13 @@
 //! The instances of a template.
-ghost use Rattle.std.specs.Prelude.{◌≡◌, ◌++◌, ◌<◌, ◌≤◌, [], map, length, get_or, take, drop, IfOk, OnOk};
+ghost use Rattle.std.specs.Prelude.{◌≡◌, ◌++◌, ◌≤◌, map, length, take, drop, IfOk, OnOk};
 ghost use Rattle.std.specs.List.{flat_map, list_all};
 ghost use Rattle.std.specs.Ordering.{nat_cmp};
 ghost use Rattle.asp_defs.specs.Bases.{product};
 ghost use Rattle.asp_defs.specs.Instances.{op_holds};
+ghost use Rattle.asp_ground.specs.Domains.{domains_of};
 ghost use Rattle.asp_ground.specs.Templates.{slot_rank, number_at, is_true, instance_at, instances_over};
 
+use crate::domains::{Domains, domain_at, variable_count};
 use crate::template::{AtomTemplate, Comparison, Slot, Template};
 use asp_defs::{GroundRule, List, NoMemory, Op};
 use std::alloc::Global;
@@ -120,14 +122,6 @@ fn add_instance(
     Ok(())
 }
 
-/// The domain at a place.
-fn domain_at<'a>(domains: &[&'a [u32]], place: usize) -> &'a [u32]
-    requires { place < length domains.now }
-    ensures { result.now ≡ get_or (map (λ d. d.now) domains.now) place [] }
-{
-    domains[place]
-}
-
 /// Adds the instances in which the first variables have given ranks and the others run through their domains, the last
 /// one fastest. It calls itself once per variable, of which a rule has at most 16.
 fn add_instances(
@@ -135,18 +129,18 @@ fn add_instances(
     out: &mut List<GroundRule>,
     size: u32,
     template: &Template,
-    domains: &[&[u32]],
+    domains: Domains<'_>,
     ranks: &mut [u32],
     given: usize,
 ) -> Result<(), NoMemory>
     requires within { given ≤ length ranks.old }
-    requires whole { length domains.now ≡ length ranks.old }
+    requires whole { length (domains_of domains) ≡ length ranks.old }
     ensures added { OnOk result (out.new ≡ out.old
         ++ flat_map (λ rest. instance_at size template.now (take given ranks.old ++ rest))
-        (product (drop given (map (λ d. d.now) domains.now)))) }
+        (product (drop given (domains_of domains.entry)))) }
     ensures kept { take given ranks.new ≡ take given ranks.old }
 {
-    if given == domains.len() {
+    if given == ranks.len() {
         return add_instance(alloc, out, size, template, ranks);
     }
     let domain = domain_at(domains, given);
@@ -163,10 +157,10 @@ pub fn add_all(
     out: &mut List<GroundRule>,
     size: u32,
     template: &Template,
-    domains: &[&[u32]],
+    domains: Domains<'_>,
 ) -> Result<(), NoMemory>
-    ensures { OnOk result (out.new ≡ out.old ++ instances_over size template.now (map (λ d. d.now) domains.now)) }
+    ensures { OnOk result (out.new ≡ out.old ++ instances_over size template.now (domains_of domains.entry)) }
 {
-    let mut ranks = vec![in alloc; 0_u32; domains.len()]?;
+    let mut ranks = vec![in alloc; 0_u32; variable_count(domains)]?;
     add_instances(alloc, out, size, template, domains, ranks.as_mut_slice(), 0)
 }

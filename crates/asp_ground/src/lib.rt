@@ -6,14 +6,16 @@
 //! of its arguments read as digits, and constants compare as their ranks do.
 //!
 //! In reading order: `template` (compiled rules), `ranks` (where constants and predicates stand), `variables` (those of
-//! a rule, each once), `compile` (a rule's template), `instances` (a template under all ranks), `facts` (facts with
-//! intervals), `rules` (the instances of rules and levels), `game` (those of a program), `constants` and `counts` (how
-//! many instances there are, counted without taking memory), `laws` (the game of a program is valid).
+//! a rule, each once), `compile` (a rule's template), `domains` (what its variables run through), `instances` (a template
+//! under all ranks), `facts` (facts with intervals), `rules` (the instances of rules and levels), `game` (those of a
+//! program), `constants` and `counts` (how many instances there are, counted without taking memory), `laws` (the game of
+//! a program is valid).
 #![tactic(auto)]
 
 mod compile;
 mod constants;
 mod counts;
+mod domains;
 mod facts;
 mod game;
 mod instances;
@@ -24,7 +26,4 @@ mod template;
 mod variables;
 
 pub use counts::{count, instance_count};
-pub use game::ground;
-
-#[cfg(test)]
-mod tests;
+pub use game::{ground, instantiate, measure};

@@ -1,46 +1,19 @@
 //! The instances of rules and of levels.
-ghost use Rattle.std.specs.Prelude.{◌≡◌, ◌++◌, map, get_or, replicate, [], IfOk, OnOk};
+ghost use Rattle.std.specs.Prelude.{◌≡◌, ◌++◌, get_or, [], IfOk, OnOk};
 ghost use Rattle.std.specs.List.{flat_map};
 ghost use Rattle.asp_ground.specs.Ranks.{IsOrdered};
 ghost use Rattle.asp_ground.specs.Variables.{found_disjunctive, found_element};
-ghost use Rattle.asp_ground.specs.Templates.{instances_over};
 ghost use Rattle.asp_ground.specs.Compiled.{schema_instances, disjunctive_instances, compiled_instances};
 
-use crate::compile::{atom_template, atom_templates, compile};
+use crate::compile::{atom_template, atom_templates, compile, single};
+use crate::domains::Domains;
 use crate::facts::add_fact;
 use crate::instances::add_all;
 use crate::ranks::capped;
-use crate::template::Template;
 use crate::variables::{disjunctive_variables, element_variables};
 use asp_atoms::Vocabulary;
 use asp_defs::{Atom, Element, GroundRule, Head, List, Literal, NoMemory, Rule};
 use std::alloc::Global;
-
-/// The same slice as often as asked for.
-fn repeated(alloc: Global, slice: &[u32], count: usize) -> Result<Vec<&[u32]>, NoMemory>
-    ensures { IfOk result (λ slices. map (λ s. s.now) slices.items ≡ replicate count slice.now) }
-{
-    let mut slices = Vec::with_capacity(alloc, count)?;
-    for _place in 0..count {
-        slices.push(slice)?;
-    }
-    Ok(slices)
-}
-
-/// Adds the instances of a template all of whose variables run through the same ranks.
-fn add_over(
-    alloc: Global,
-    out: &mut List<GroundRule>,
-    size: u32,
-    template: &Template,
-    ranks: &[u32],
-    variables: usize,
-) -> Result<(), NoMemory>
-    ensures { OnOk result (out.new ≡ out.old ++ instances_over size template.now (replicate variables ranks.now)) }
-{
-    let domains = repeated(alloc, ranks, variables)?;
-    add_all(alloc, out, size, template, domains.as_slice())
-}
 
 /// Adds the instances of a disjunctive rule that isn't spread.
 fn add_disjunctive(
@@ -59,14 +32,9 @@ fn add_disjunctive(
     let variables = found.as_slice();
     let heads = atom_templates(alloc, vocabulary, variables, atoms)?;
     let template = compile(alloc, vocabulary, variables, false, heads, body, &[])?;
-    add_over(
-        alloc,
-        out,
-        capped(vocabulary.constants.len()),
-        &template,
-        ranks,
-        variables.len(),
-    )
+    let size = capped(vocabulary.constants.len());
+    let domains = Domains::Same(ranks, variables.len());
+    add_all(alloc, out, size, &template, domains)
 }
 
 /// Adds the instances of an element of a choice.
@@ -84,18 +52,13 @@ fn add_element(
 {
     let found = element_variables(body, element);
     let variables = found.as_slice();
-    let mut heads = List::new(alloc);
-    heads.push(atom_template(alloc, vocabulary, variables, &element.atom)?)?;
+    let head = atom_template(alloc, vocabulary, variables, &element.atom)?;
+    let heads = single(alloc, head)?;
     let cond = element.cond.as_slice();
     let template = compile(alloc, vocabulary, variables, true, heads, body, cond)?;
-    add_over(
-        alloc,
-        out,
-        capped(vocabulary.constants.len()),
-        &template,
-        ranks,
-        variables.len(),
-    )
+    let size = capped(vocabulary.constants.len());
+    let domains = Domains::Same(ranks, variables.len());
+    add_all(alloc, out, size, &template, domains)
 }
 
 /// Adds the instances of the elements of a choice, in their order.
@@ -157,7 +120,7 @@ fn add_rule(
 }
 
 /// The ranks of the universe of a level, and none past the last level.
-fn universe_of(universes: &[List<u32>], level: usize) -> &[u32]
+pub fn universe_of(universes: &[List<u32>], level: usize) -> &[u32]
     ensures { result.now ≡ get_or universes.now level [] }
 {
     if level < universes.len() {

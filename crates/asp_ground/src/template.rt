@@ -2,7 +2,7 @@
 use asp_defs::{List, Op};
 
 /// A term of a template.
-#[derive(Debug, Clone, Copy, PartialEq, Eq)]
+#[derive(Clone, Copy)]
 pub enum Slot {
     /// The constant with this rank.
     Rank(u32),
@@ -11,7 +11,7 @@ pub enum Slot {
 }
 
 /// An atom of a template.
-#[derive(Debug, Drop)]
+#[derive(Drop)]
 pub struct AtomTemplate {
     /// The number of its predicate's first atom.
     pub first: u32,
@@ -20,7 +20,7 @@ pub struct AtomTemplate {
 }
 
 /// A comparison of a template.
-#[derive(Debug, Clone, Copy, PartialEq, Eq)]
+#[derive(Clone, Copy)]
 pub struct Comparison {
     /// What stands before the operator.
     pub left: Slot,
@@ -31,7 +31,7 @@ pub struct Comparison {
 }
 
 /// A rule that is instantiated as one.
-#[derive(Debug, Drop)]
+#[derive(Drop)]
 pub struct Template {
     /// Whether the instances are choices.
     pub choice: bool,

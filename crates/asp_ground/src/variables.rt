@@ -1,15 +1,16 @@
 //! The variables of a rule, each once, in the order of first occurrence. A checked rule has at most 16, so that they
 //! stand in an array.
-ghost use Rattle.std.specs.Prelude.{◌≡◌, ◌++◌, map};
+ghost use Rattle.std.specs.Prelude.{◌≡◌, map};
 ghost use Rattle.std.specs.List.{flat_map, fold};
-ghost use Rattle.asp_defs.specs.Instances.{same_variable, term_variables, atom_variables, literal_variables};
+ghost use Rattle.asp_defs.specs.Instances.{same_variable, term_variables};
 ghost use Rattle.asp_defs.specs.Safety.{is_variable_of};
 ghost use Rattle.asp_check.specs.Variables.{term_of};
 ghost use Rattle.asp_ground.specs.Variables.{with_variable, disjunctive_variables, element_variables};
 
 use arrayvec::ArrayVec;
-use asp_check::Variable;
+use asp_check::{Variable, variable_of};
 use asp_defs::{Atom, Element, Literal, Term};
+use asp_walk::Terms;
 
 /// Room for one more variable than a checked rule has at most.
 const VARIABLE_ROOM: usize = 17;
@@ -58,57 +59,18 @@ fn add_variable<'a>(found: &mut Variables<'a>, variable: Variable<'a>)
 fn add_term<'a>(found: &mut Variables<'a>, term: &'a Term)
     ensures { map term_of found.new.items ≡ fold with_variable (map term_of found.old.items) (term_variables term.now) }
 {
-    match term {
-        Term::Var(name) => add_variable(found, Variable::Named(name.as_slice())),
-        Term::Anon(number) => add_variable(found, Variable::Anon(*number)),
-        Term::Int(_) => {}
-        Term::Sym(_) => {}
-        Term::Range(..) => {}
+    if let Some(variable) = variable_of(term) {
+        add_variable(found, variable);
     }
 }
 
-/// Adds the variables of an atom.
-fn add_atom<'a>(found: &mut Variables<'a>, atom: &'a Atom)
-    ensures { map term_of found.new.items ≡ fold with_variable (map term_of found.old.items) (atom_variables atom.now) }
+/// Adds the variables among terms.
+fn add_terms<'a>(found: &mut Variables<'a>, terms: Terms<'a>)
+    ensures { map term_of found.new.items
+        ≡ fold with_variable (map term_of found.old.items) (flat_map term_variables terms.entry) }
 {
-    let args = atom.args.as_slice();
-    for term in args {
+    for term in terms {
         add_term(found, term);
-    }
-}
-
-/// Adds the variables of a literal.
-fn add_literal<'a>(found: &mut Variables<'a>, literal: &'a Literal)
-    ensures { map term_of found.new.items
-        ≡ fold with_variable (map term_of found.old.items) (literal_variables literal.now) }
-{
-    match literal {
-        Literal::Pos(atom) => add_atom(found, atom),
-        Literal::Neg(atom) => add_atom(found, atom),
-        Literal::Cmp(left, _, right) => {
-            add_term(found, left);
-            add_term(found, right);
-        }
-    }
-}
-
-/// Adds the variables of atoms.
-fn add_atoms<'a>(found: &mut Variables<'a>, atoms: &'a [Atom])
-    ensures { map term_of found.new.items
-        ≡ fold with_variable (map term_of found.old.items) (flat_map atom_variables atoms.now) }
-{
-    for atom in atoms {
-        add_atom(found, atom);
-    }
-}
-
-/// Adds the variables of literals.
-fn add_literals<'a>(found: &mut Variables<'a>, literals: &'a [Literal])
-    ensures { map term_of found.new.items
-        ≡ fold with_variable (map term_of found.old.items) (flat_map literal_variables literals.now) }
-{
-    for literal in literals {
-        add_literal(found, literal);
     }
 }
 
@@ -117,8 +79,8 @@ pub fn disjunctive_variables<'a>(atoms: &'a [Atom], body: &'a [Literal]) -> Vari
     ensures { map term_of result.items ≡ disjunctive_variables atoms.now body.now }
 {
     let mut found = Variables::new();
-    add_atoms(&mut found, atoms);
-    add_literals(&mut found, body);
+    add_terms(&mut found, Terms::of_atoms(atoms));
+    add_terms(&mut found, Terms::of_literals(body));
     found
 }
 
@@ -127,8 +89,7 @@ pub fn element_variables<'a>(body: &'a [Literal], element: &'a Element) -> Varia
     ensures { map term_of result.items ≡ element_variables body.now element.now }
 {
     let mut found = Variables::new();
-    add_atom(&mut found, &element.atom);
-    add_literals(&mut found, element.cond.as_slice());
-    add_literals(&mut found, body);
+    add_terms(&mut found, Terms::of_element(element));
+    add_terms(&mut found, Terms::of_literals(body));
     found
 }

@@ -1,6 +1,6 @@
 use Rattle.std.proofs.Common.{◌≡◌, map, take}
 use Rattle.std.specs.List.{flat_map}
-use Rattle.asp_atoms.specs.Written.{rule_terms}
+use Rattle.asp_walk.specs.Written.{rule_terms}
 use Rattle.asp_atoms.proofs.written.terms.Given as goal
 
 abbrev pub invariant-loop-rule : goal.invariant-loop-rule

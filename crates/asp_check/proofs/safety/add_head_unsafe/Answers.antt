@@ -10,8 +10,8 @@ use Rattle.asp_check.specs.Variables.{terms_of}
 use Rattle.asp_check.proofs.Unsafe.{unbound_is}
 use Rattle.asp_check.proofs.safety.add_head_unsafe.Goals as goal
 
-pub returns-in_ok-add_atoms-in-Disj : goal.returns-in_ok-add_atoms-in-Disj
-returns-in_ok-add_atoms-in-Disj c =
+pub returns-in_ok-variables-in-Disj : goal.returns-in_ok-variables-in-Disj
+returns-in_ok-variables-in-Disj c =
     let mine : terms_of c.as_slice-in-Disj.result.now ≡ flat_map atom_variables c.in-Disj.atoms = search rules in
     let head : head_unsafe c.args.body.now (Disj c.in-Disj.atoms) ≡ head_unsafe c.args.body.now c.args.head.now = ap (λ (h : Head). head_unsafe c.args.body.now h) (sym c.in-Disj.is) in
     IfOk-equal c.add_others.result (terms_of c.add_others.new.out.items)

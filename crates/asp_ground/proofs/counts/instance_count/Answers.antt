@@ -1,71 +1,39 @@
-use Rattle.std.proofs.Common.{ℕ, ◌≡◌, ◌+◌, ◌∙◌, sym, ap, subst, zero-add, List, [], ◌∷◌, ◌++◌, map, drop, length, arith}
-use Rattle.std.specs.List.{flat_map, fold, sum_by}
-use Rattle.std.proofs.lemmas.List.{drop_more, drop_all, length-map}
-use Rattle.asp_defs.specs.declared.ground.Const.{Const}
+use Rattle.std.proofs.Common.{ℕ, ◌+◌, ◌∙◌, ap, List, [], ◌∷◌, ◌++◌, map, take, length, arith}
+use Rattle.std.specs.List.{sum_by, enumerate_from}
 use Rattle.asp_defs.specs.declared.syntax.Part.{Part}
-use Rattle.asp_defs.specs.declared.syntax.Rule.{Rule}
 use Rattle.asp_defs.specs.declared.syntax.Program.{Program}
-use Rattle.asp_defs.specs.Constants.{const_cmp, rule_constants, level_rules}
-use Rattle.asp_atoms.specs.declared.keys.Key.{Key}
-use Rattle.asp_atoms.specs.Ascending.{Ascends}
-use Rattle.asp_atoms.specs.Keys.{const_of}
+use Rattle.asp_defs.specs.declared.syntax.Rule.{Rule}
+use Rattle.asp_defs.specs.Constants.{level_rules}
+use Rattle.asp_atoms.specs.declared.vocabularies.Vocabulary.{Vocabulary}
 use Rattle.asp_atoms.specs.Counts.{shown}
-use Rattle.asp_ground.specs.Counts.{with_constant, rule_count, counted_from}
-use Rattle.asp_ground.proofs.Counted.{total_counted}
+use Rattle.asp_atoms.specs.Vocabularies.{vocabulary_of}
+use Rattle.asp_ground.specs.Counts.{level_count}
+use Rattle.asp_ground.proofs.Counted.{total_by_universes}
+use Rattle.asp_ground.proofs.Steps.{pair, enumerated_more, enumerated_last, shown_more}
 use Rattle.asp_ground.proofs.counts.instance_count.Goals as goal
 
 abbrev rules_of : List Part → List (List Rule)
 rules_of levels = map (λ (part : Part). part.rules) levels
 
-nothing_ascends : Ascends const_cmp []
-nothing_ascends = tt
-
-counted : (count next part S R : ℕ) → part ≡ shown S → next ≡ shown (count + part) → shown (next + R) ≡ shown (count + (S + R))
-counted count next part S R e f = omega (arith, e, f)
-
--- the instances of one level more
-step : (count next part size : ℕ) (found now : List Const) (rules : List Rule) (more : List (List Rule)) → now ≡ fold with_constant found (flat_map rule_constants rules) → size ≡ length now → part ≡ shown (sum_by (rule_count size) rules) → next ≡ shown (count + part) → shown (next + counted_from now more) ≡ shown (count + counted_from found (rules ∷ more))
-step count next part size found now rules more added same e f =
-    counted count next part (sum_by (rule_count (length now)) rules) (counted_from now more) (e ∙ ap (λ (n : ℕ). shown (sum_by (rule_count n) rules)) same) f
-    ∙ ap (λ (cs : List Const). shown (count + (sum_by (rule_count (length cs)) rules + counted_from cs more))) added
-
-sized : (keys : List Key) (n : ℕ) → n ≡ length keys → n ≡ length (map const_of keys)
-sized keys n e = e ∙ sym (length-map keys const_of)
-
-pub add_rules-requires : goal.add_rules-requires
-add_rules-requires c = c.loop-level.invariant.0
-
-pub loop-level-init : goal.loop-level-init
-loop-level-init c = (
-  subst (λ (keys : List Key). Ascends const_cmp (map const_of keys)) (sym c.new-found.ensures) nothing_ascends,
-  ap (λ (keys : List Key). shown (0 + counted_from (map const_of keys) (rules_of c.as_slice-levels.result.now ++ c.program-program.result.now.cons ∷ []))) c.new-found.ensures
-      ∙ (ap shown (zero-add (counted_from [] (rules_of c.as_slice-levels.result.now ++ c.program-program.result.now.cons ∷ [])))
-      ∙ ap (λ (levels : List Part). shown (counted_from [] (rules_of levels ++ c.program-program.result.now.cons ∷ []))) c.as_slice-levels.ensures),
-)
-
-pub loop-level-preserved : goal.loop-level-preserved
-loop-level-preserved c =
-    let dropped : drop c.loop-level.level-index c.as_slice-levels.result.now ≡ c.level-item.result ∷ drop (c.loop-level.level-index + 1) c.as_slice-levels.result.now =
-    drop_more c.as_slice-levels.result.now c.loop-level.level-index c.level-item.result (omega arith)
-    ∙ ap (λ (part : Part). part ∷ drop (c.loop-level.level-index + 1) c.as_slice-levels.result.now) (sym c.level-item.is) in (
-      c.add_rules.ensures.ascending,
-      step c.loop-level.count c.sum-count.result c.rules_count.result c.len.result (map const_of c.loop-level.found.items) (map const_of c.add_rules.new.found.items) c.as_slice-rules.result.now
-          (rules_of (drop (c.loop-level.level-index + 1) c.as_slice-levels.result.now) ++ c.program-program.result.now.cons ∷ [])
-          c.add_rules.ensures.added (sized c.add_rules.new.found.items c.len.result c.len.ensures.value) c.rules_count.ensures c.sum-count.ensures
-          ∙ (ap (λ (rules : List Rule). shown (c.loop-level.count + counted_from (map const_of c.loop-level.found.items) (rules ∷ (rules_of (drop (c.loop-level.level-index + 1) c.as_slice-levels.result.now) ++ c.program-program.result.now.cons ∷ [])))) c.as_slice-rules.ensures
-          ∙ (ap (λ (levels : List Part). shown (c.loop-level.count + counted_from (map const_of c.loop-level.found.items) (rules_of levels ++ c.program-program.result.now.cons ∷ []))) (sym dropped)
-          ∙ c.loop-level.invariant.1)),
-    )
+pub loop-place-preserved : goal.loop-place-preserved
+loop-place-preserved c =
+    shown_more (level_count c.as_slice-universes.result.now) (enumerate_from 1 (rules_of (take c.loop-place.place c.as_slice-levels.result.now))) (enumerate_from 1 (rules_of (take (c.loop-place.place + 1) c.as_slice-levels.result.now)))
+    (pair (c.loop-place.place + 1) c.index-levels-place.result.rules) c.loop-place.count c.sum-count.result c.level_count.result
+    (enumerated_more (λ (part : Part). part.rules) c.as_slice-levels.result.now c.loop-place.place c.index-levels-place.result (omega arith) c.index-levels-place.is)
+    c.loop-place.invariant c.sum-count.ensures
+    (c.level_count.ensures
+    ∙ ap (λ (rules : List Rule). shown (level_count c.as_slice-universes.result.now (pair (c.loop-place.place + 1) rules))) c.as_slice.ensures)
 
 pub returns : goal.returns
 returns c =
-    let last = c.sum.ensures in
-    let whole : c.sum.result ≡ shown (c.sum.result + 0) = omega (arith, last) in
-    whole
-    ∙ (step c.loop-level.count c.sum.result c.rules_count-2.result c.len-2.result (map const_of c.loop-level.found.items) (map const_of c.add_rules-2.new.found.items) c.as_slice-cons.result.now []
-    c.add_rules-2.ensures.added (sized c.add_rules-2.new.found.items c.len-2.result c.len-2.ensures.value) c.rules_count-2.ensures c.sum.ensures
-    ∙ (ap (λ (rules : List Rule). shown (c.loop-level.count + counted_from (map const_of c.loop-level.found.items) (rules ∷ []))) c.as_slice-cons.ensures
-    ∙ (ap (λ (levels : List Part). shown (c.loop-level.count + counted_from (map const_of c.loop-level.found.items) (rules_of levels ++ c.program-program.result.now.cons ∷ []))) (sym (drop_all c.loop-level.level-index c.as_slice-levels.result.now (omega arith)))
-    ∙ (c.loop-level.invariant.1
-    ∙ ap shown (ap (λ (p : Program). counted_from [] (level_rules p)) c.program-program.ensures.program
-    ∙ total_counted c.args.checked.now c.program-program.ensures.checked c.program-program.ensures.checkable c.requires)))))
+    shown_more (level_count c.as_slice-universes.result.now) (enumerate_from 1 (rules_of (take c.loop-place.place c.as_slice-levels.result.now))) (enumerate_from 1 (rules_of c.as_slice-levels.result.now ++ c.program-program.result.now.cons ∷ []))
+    (pair (length c.as_slice-levels.result.now + 1) c.program-program.result.now.cons) c.loop-place.count c.sum.result c.level_count-2.result
+    (enumerated_last (λ (part : Part). part.rules) c.as_slice-levels.result.now c.program-program.result.now.cons c.loop-place.place (omega arith))
+    c.loop-place.invariant c.sum.ensures
+    (c.level_count-2.ensures
+    ∙ ap (λ (rules : List Rule). shown (level_count c.as_slice-universes.result.now (pair (length c.as_slice-levels.result.now + 1) rules))) c.as_slice-2.ensures)
+    ∙ (ap (λ (us : List (List ℕ)). shown (sum_by (level_count us) (enumerate_from 1 (rules_of c.as_slice-levels.result.now ++ c.program-program.result.now.cons ∷ []))))
+    (c.as_slice-universes.ensures ∙ ap (λ (v : Vocabulary). v.universes) c.requires.known)
+    ∙ (ap (λ (levels : List Part). shown (sum_by (level_count (vocabulary_of c.args.checked.now).universes) (enumerate_from 1 (rules_of levels ++ c.program-program.result.now.cons ∷ [])))) c.as_slice-levels.ensures
+    ∙ (ap (λ (p : Program). shown (sum_by (level_count (vocabulary_of c.args.checked.now).universes) (enumerate_from 1 (level_rules p)))) c.program-program.ensures.program
+    ∙ ap shown (total_by_universes c.args.checked.now c.program-program.ensures.checked c.program-program.ensures.checkable))))

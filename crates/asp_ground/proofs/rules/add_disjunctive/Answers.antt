@@ -11,14 +11,14 @@ use Rattle.asp_ground.proofs.rules.add_disjunctive.Goals as goal
 
 pub returns : goal.returns
 returns c =
-    IfOk-equal c.add_over.result c.add_over.new.out
-    (c.args.out.now ++ instances_over c.capped.result c.in_ok-template.template (replicate (length c.as_slice-variables.result.now) c.args.ranks.now))
+    IfOk-equal c.add_all.result c.add_all.new.out
+    (c.args.out.now ++ instances_over c.capped-size.result c.in_ok-template.template (replicate (length c.as_slice-variables.result.now) c.args.ranks.now))
     (c.args.out.now ++ schema_instances c.args.vocabulary.now c.args.ranks.now (found_disjunctive c.args.atoms.now c.args.body.now))
-    c.add_over.ensures
+    c.add_all.ensures
     (ap (λ (rs : List GroundRule). c.args.out.now ++ rs)
-    (disjunctive_over c.args.vocabulary.now c.args.ranks.now c.args.atoms.now c.args.body.now c.as_slice-variables.result.now c.in_ok-heads.heads c.capped.result (length c.as_slice-variables.result.now) c.in_ok-template.template
+    (disjunctive_over c.args.vocabulary.now c.args.ranks.now c.args.atoms.now c.args.body.now c.as_slice-variables.result.now c.in_ok-heads.heads c.capped-size.result (length c.as_slice-variables.result.now) c.in_ok-template.template
     (ap (map term_of) c.as_slice-variables.ensures.value ∙ c.disjunctive_variables-found.ensures)
     c.in_ok-heads.ensures
     c.in_ok-template.ensures
-    (c.capped.ensures ∙ ap capped c.len.ensures)
+    (c.capped-size.ensures ∙ ap capped c.len.ensures)
     refl))
