@@ -38,13 +38,6 @@ pub record IsBest (trail : TrailState) (row : List ℕ) (index other best : ℕ)
   pub high : best < other
   pub last : (o visit : ℕ) → index ≤ o → o < other → visit ≤ length trail.steps → visit_at trail.atoms trail.steps visit ≡ get_or row (3 + best) 0 → IsFalseBy trail (get_or row (3 + o) 0) visit
 
-pub IsBest-one : (trail : TrailState) (row : List ℕ) (index : ℕ) → IsBest trail row index (index + 1) index
-IsBest-one trail row index = record {
-  low = omega arith;
-  high = omega arith;
-  last = λ o visit a b l e. let same : o ≡ index = omega arith in (visit, omega arith, e ∙ sym (ap (λ (n : ℕ). get_or row (3 + n) 0) same));
-}
-
 pub IsBest-keeps : (trail : TrailState) (row : List ℕ) (index other best x y : ℕ) → IsBest trail row index other best → IsLatest trail (get_or row (3 + best) 0) x → IsLatest trail (get_or row (3 + other) 0) y → y ≤ x → IsBest trail row index (other + 1) best
 IsBest-keeps trail row index other best x y b lx ly h =
     let high = b.high in record {

@@ -155,13 +155,6 @@ conflict_of old one trail x o p =
     let within = x.within in
     (omega (arith, len, within), subst (IsFalse trail.steps) (sym x.is) (IsFalse-row one.atoms trail.steps row x.is_record (λ k h. last_false one.atoms trail row 0 0 x.trail_atoms x.is_record o.first p k (omega arith) h)))
 
--- the empty clause is false
-pub conflict_empty : (old : Watches) (trail : TrailState) → AreWatches old → old.watched < length old.records → get_or (row_at old.records old.watched) 0 0 ≡ 0 → IsConflict (book_of old) trail.steps old.watched
-conflict_empty old trail w left none =
-    let row = row_at old.records old.watched in
-    let len = length-map old.records literals_of in
-    (omega (arith, len, left), subst (IsFalse trail.steps) (sym (clause_at-book old.records old.watched left)) (IsFalse-row old.atoms trail.steps row (w.store.records old.watched left) (λ k h. absurd (omega (arith, h, none)))))
-
 -- where the second is false, the clause implies the first
 pub implies_first : (old one : Watches) (trail : TrailState) → Examined old one trail → Orders old one trail old.watched → (get_or (row_at one.records old.watched) 4 0 < 2 * trail.atoms → IsPlaced trail.steps (negated (get_or (row_at one.records old.watched) 4 0))) →
     Implies trail.steps (clause_at (map literals_of one.records) old.watched) (get_or (row_at one.records old.watched) 3 0)

@@ -20,9 +20,6 @@ LoweredFrom-none marks count visit = record { within = omega arith; same = λ k 
 lowered_at : (visit : ℕ) (mark : Mark) → visit ≤ mark.head → (let m : Mark = record mark { head = visit } in m) ≡ lowered visit mark
 lowered_at visit mark h = let e : visit ≡ min mark.head visit = omega arith in ap (λ (n : ℕ). let m : Mark = record { start = mark.start; head = n } in m) e
 
-lowered_none : (visit : ℕ) (mark : Mark) → mark.head ≤ visit → mark ≡ lowered visit mark
-lowered_none visit mark h = let e : mark.head ≡ min mark.head visit = omega arith in ap (λ (n : ℕ). let m : Mark = record { start = mark.start; head = n } in m) e
-
 pub LoweredFrom-more : (before now : List Mark) (count visit level : ℕ) (mark : Mark) → count ≤ length now → 0 < level → LoweredFrom before now count visit level → mark ≡ mark_at now (level - 1) → visit < mark.head →
     LoweredFrom before (set now (level - 1) (record mark { head = visit })) count visit (level - 1)
 LoweredFrom-more before now count visit level mark len some l e h =
@@ -38,12 +35,6 @@ LoweredFrom-more before now count visit level mark len some l e h =
         | inr ne ↦ get_or-set_other now (level - 1) k new no_mark ne ∙ l.low k (omega (arith, ne)) b
       ];
     }
-
-pub LoweredFrom-end : (before now : List Mark) (count visit level : ℕ) → LoweredFrom before now count visit level → ((k : ℕ) → k < level → (mark_at before k).head ≤ visit) → (k : ℕ) → k < count → mark_at now k ≡ lowered visit (mark_at before k)
-LoweredFrom-end before now count visit level l small k h = elim (cases_lt k level) [
-  | inl lt ↦ l.same k lt ∙ lowered_none visit (mark_at before k) (small k lt)
-  | inr ge ↦ l.low k ge h
-]
 
 -- lowered marks are marks
 pub AreMarks-lowered : (steps : List Step) (marks new : List Mark) (head visit : ℕ) → AreMarks steps marks head → length new ≡ length marks → ((level : ℕ) → level < length marks → mark_at new level ≡ lowered visit (mark_at marks level)) → AreMarks steps new head

@@ -34,9 +34,6 @@ SameClauses-trans a b c x y = record {
   reordered = λ clause h. IsPermutation-trans (clause_at a clause) (clause_at b clause) (clause_at c clause) (x.reordered clause h) (y.reordered clause (let e = x.as_many in omega (arith, e, h)));
 }
 
-pub SameClauses-from : (old new : List (List ℕ)) → new ≡ old → SameClauses old new
-SameClauses-from old new e = subst (SameClauses old) (sym e) (SameClauses-refl old)
-
 -- clauses by their rows
 pub SameClauses-rows : (old new : List (List ℕ)) → length new ≡ length old → ((clause : ℕ) → clause < length old → IsPermutation (literals_of (row_at old clause)) (literals_of (row_at new clause))) → SameClauses (map literals_of old) (map literals_of new)
 SameClauses-rows old new len p =
@@ -160,15 +157,15 @@ never_visited atoms steps n head watch other l h code stands visit v e =
     absurd (stands (IsPlaced-from_take steps n (negated watch) l (visited_placed atoms (take n steps) visit watch code (omega (arith, len, v, h)) e)))
 
 -- ---- clauses whose literals are false
-member : (xs : List ℕ) (x : ℕ) → Contains xs x → (k : ℕ) × (k < length xs) × (get_or xs k 0 ≡ x)
-member xs x c = (c.0, c.1, get_or_default xs c.0 0 x c.1 ∙ c.2)
+pub Contains-place : (xs : List ℕ) (x : ℕ) → Contains xs x → (k : ℕ) × (k < length xs) × (get_or xs k 0 ≡ x)
+Contains-place xs x c = (c.0, c.1, get_or_default xs c.0 0 x c.1 ∙ c.2)
 
-pub member_of : (xs : List ℕ) (k : ℕ) → k < length xs → Contains xs (get_or xs k 0)
-member_of xs k h = (k, h, get_or_default xs k (get_or xs k 0) 0 h)
+pub Contains-at : (xs : List ℕ) (k : ℕ) → k < length xs → Contains xs (get_or xs k 0)
+Contains-at xs k h = (k, h, get_or_default xs k (get_or xs k 0) 0 h)
 
 pub IsFalse-row : (atoms : ℕ) (steps : List Step) (row : List ℕ) → IsRecord atoms row → ((k : ℕ) → k < get_or row 0 0 → IsPlaced steps (negated (get_or row (3 + k) 0))) → IsFalse steps (literals_of row)
 IsFalse-row atoms steps row r f literal c =
-    let m = member (literals_of row) literal c in
+    let m = Contains-place (literals_of row) literal c in
     let l = length_literals atoms row r in
     let lt : m.0 < get_or row 0 0 = omega (arith, l, m.1) in
     subst (λ (x : ℕ). IsPlaced steps (negated x)) (sym (literal_in_row row m.0 lt) ∙ m.2) (f m.0 lt)
@@ -177,9 +174,9 @@ pub Implies-row : (atoms : ℕ) (steps : List Step) (row : List ℕ) (i : ℕ) �
 Implies-row atoms steps row i r h f =
     let l = length_literals atoms row r in
     record {
-      has = subst (Contains (literals_of row)) (literal_in_row row i h) (member_of (literals_of row) i (omega (arith, l, h)));
+      has = subst (Contains (literals_of row)) (literal_in_row row i h) (Contains-at (literals_of row) i (omega (arith, l, h)));
       others_fail = λ other c ne.
-          let m = member (literals_of row) other c in
+          let m = Contains-place (literals_of row) other c in
           let lt : m.0 < get_or row 0 0 = omega (arith, l, m.1) in
           let there : m.0 ≢ i = λ e. ne (sym m.2 ∙ literal_in_row row m.0 lt ∙ ap (λ (n : ℕ). get_or row (3 + n) 0) e) in
           subst (λ (x : ℕ). IsPlaced steps (negated x)) (sym (literal_in_row row m.0 lt) ∙ m.2) (f m.0 lt there);

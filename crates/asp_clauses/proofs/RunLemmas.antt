@@ -16,12 +16,9 @@ use Rattle.asp_clauses.proofs.FewLemmas.{not_both, not_placed}
 use Rattle.asp_clauses.proofs.StoreLemmas.{clause_at-book}
 use Rattle.asp_clauses.proofs.WatchLemmas.{length_literals, literal_in_row, cell_in_range, watches_differ}
 use Rattle.asp_clauses.proofs.ChoiceLemmas.{placed_visited}
-use Rattle.asp_clauses.proofs.ReorderLemmas.{SameClauses-refl, SameClauses-trans, member_of}
+use Rattle.asp_clauses.proofs.ReorderLemmas.{SameClauses-refl, SameClauses-trans, Contains-at}
 use Rattle.asp_clauses.proofs.ExamineLemmas.{Extends-refl, Extends-trans}
 use Rattle.asp_clauses.proofs.VisitLemmas.{watched_cells}
-
-pub Propagates-refl : (watches : Watches) (trail : TrailState) → AreWatches watches → Goes (book_of watches) trail → Propagates watches watches trail trail
-Propagates-refl watches trail w g = record { watches = w; goes = g; clauses = SameClauses-refl (map literals_of watches.records); atoms = refl; extended = Extends-refl trail }
 
 pub Propagates-trans : (a b c : Watches) (x y z : TrailState) → Propagates a b x y → Propagates b c y z → Propagates a c x z
 Propagates-trans a b c x y z p q = record {
@@ -82,10 +79,10 @@ IsFixpoint-from watches trail w g all head number low =
     let code0 = cell_in_range watches.atoms row 0 r some in
     let here : (code : ℕ) → code < 2 * trail.atoms → IsPlaced trail.steps (negated code) → (visit : ℕ) × (visit < trail.head) × (visit_at watches.atoms trail.steps visit ≡ code) = λ code h p.
     let v = all_visited trail trail.head code head h p in (v.0, v.1, ap (λ (n : ℕ). visit_at n trail.steps v.0) atoms ∙ v.2) in
-    let contains0 : Contains (literals_of row) (get_or row 3 0) = subst (Contains (literals_of row)) (literal_in_row row 0 some) (member_of (literals_of row) 0 (omega (arith, lit, some))) in
+    let contains0 : Contains (literals_of row) (get_or row 3 0) = subst (Contains (literals_of row)) (literal_in_row row 0 some) (Contains-at (literals_of row) 0 (omega (arith, lit, some))) in
     -- a clause of one literal: the origin was visited, so its literal is true
     let single : get_or row 0 0 < 2 → IsPlaced trail.steps (get_or row 3 0) = λ one. cells.1 0 (omega (arith, head)) (sym (r.one one)) in
-    let contains1 : 1 < get_or row 0 0 → Contains (literals_of row) (get_or row 4 0) = λ two. subst (Contains (literals_of row)) (literal_in_row row 1 two) (member_of (literals_of row) 1 (omega (arith, lit, two))) in (
+    let contains1 : 1 < get_or row 0 0 → Contains (literals_of row) (get_or row 4 0) = λ two. subst (Contains (literals_of row)) (literal_in_row row 1 two) (Contains-at (literals_of row) 1 (omega (arith, lit, two))) in (
       λ f.
           let f' = subst (IsFalse trail.steps) is f in
           let first = f' (get_or row 3 0) contains0 in

@@ -45,9 +45,6 @@ IsUnassigned-push steps step literal u ne place h e = elim (place_cases steps st
   | inr eq ↦ ne (sym (ap (λ (s : Step). s.literal / 2) (step_at-last steps step place eq)) ∙ e)
 ]
 
-pub IsFalse-push : (steps : List Step) (step : Step) (clause : List ℕ) → IsFalse steps clause → IsFalse (steps ++ step ∷ []) clause
-IsFalse-push steps step clause f literal h = IsPlaced-push steps step (negated literal) (f literal h)
-
 decisions-cons : (step : Step) (later : List Step) → decisions (step ∷ later) ≡ cond {A = ℕ} (is_decision step) 1 0 + decisions later
 decisions-cons step later =
     sum_by-append (λ (x : Step). cond (is_decision x) 1 0) (step ∷ []) later ∙ ap (λ (n : ℕ). n + decisions later) (zero-add (cond {A = ℕ} (is_decision step) 1 0))
@@ -69,13 +66,6 @@ decisions-take-mono steps m n h = let d = decisions-take-le (take n steps) m in 
 
 pub decisions-le-length : (steps : List Step) → decisions steps ≤ length steps
 decisions-le-length steps = count_by-le-length is_decision steps
-
--- past a decision there are more decisions
-pub decisions-take-lt : (steps : List Step) (m n : ℕ) → m < n → m < length steps → is_decision (step_at steps m) ≡ true → decisions (take m steps) < decisions (take n steps)
-decisions-take-lt steps m n h k d =
-    let one : decisions (take (m + 1) steps) ≡ decisions (take m steps) + 1 = count_by_more_yes is_decision steps m no_step k d in
-    let more = decisions-take-mono steps (m + 1) n (omega arith) in
-    omega (arith, one, more)
 
 -- the steps before a decision are what a jump to its level goes back to
 pub back_to-take : (level : ℕ) (steps : List Step) (n : ℕ) → n < length steps → is_decision (step_at steps n) ≡ true → decisions (take n steps) ≡ level → back_to level steps ≡ take n steps

@@ -28,8 +28,6 @@ mod examine;
 mod literal;
 mod propagation;
 mod records;
-#[cfg(test)]
-mod tests;
 mod trail;
 mod watches;
 

@@ -1,4 +1,3 @@
 pub mod State
 pub mod Questions
 pub mod Answers
-pub mod Example

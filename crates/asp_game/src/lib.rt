@@ -19,6 +19,3 @@ mod step;
 pub use gate::{Gate, NoGate, Point};
 pub use moves::Moves;
 pub use step::Step;
-
-#[cfg(test)]
-mod tests;

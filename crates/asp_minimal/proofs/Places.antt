@@ -6,7 +6,7 @@ use Rattle.std.proofs.lemmas.List.{length-set, get_or-set_same, get_or-set_other
 use Rattle.std.proofs.lemmas.Option.{get_or_from_slice_get}
 use Rattle.std.proofs.Math.ListN.{get_or-map}
 use Rattle.asp_bits.specs.Places.{true_from, true_places}
-use Rattle.asp_reduct.proofs.Truths.{holds-true_places, holds-read}
+use Rattle.asp_reduct.proofs.Truths.{holds-true_places, holds-read, get_or-member}
 use Rattle.asp_defs.specs.Lists.{IsIn}
 use Rattle.asp_defs.specs.Interpretations.{holds}
 use Rattle.asp_defs.specs.Games.{ascends}
@@ -15,12 +15,6 @@ use Rattle.asp_minimal.specs.Choices.{bound_atoms}
 use Rattle.asp_minimal.specs.Numbers.{written, numbers_from, number_at, AreNumbers, leaves, leaving_places}
 
 -- ---- members
-
--- what stands at a place is a member
-pub get_or-member : {A : Type 0} (xs : List A) (i : ℕ) (d : A) → i < length xs → IsIn (get_or xs i d) xs
-get_or-member [] i d h = absurd (omega arith)
-get_or-member (x ∷ xs) zero d h = inl refl
-get_or-member (x ∷ xs) (suc i) d h = inr (get_or-member xs i d (omega arith))
 
 pub read_member : {A : Type 0} (xs : List A) (i : ℕ) (x : A) → i < length xs → x ≡ get_or xs i x → IsIn x xs
 read_member {A} xs i x h e = subst (λ (y : A). IsIn y xs) (sym e) (get_or-member xs i x h)
@@ -102,24 +96,6 @@ true_from-filter first (true ∷ values) (x ∷ kept) p l h =
         → true_from first (b ∷ kept) ≡ cond b (first ∷ filter p (true_from (suc first) values)) (filter p (true_from (suc first) values))
     both_cases true e = ap (λ xs. first ∷ xs) e
     both_cases false e = e
-
--- the true places ascend from the first place on
-pub true_from-above : (first : ℕ) (values : List Bool) (x : ℕ) → IsIn x (true_from first values) → first ≤ x
-true_from-above first [] x i = absurd i
-true_from-above first (true ∷ values) x (inl e) = omega arith
-true_from-above first (true ∷ values) x (inr i) = let h = true_from-above (suc first) values x i in omega arith
-true_from-above first (false ∷ values) x i = let h = true_from-above (suc first) values x i in omega arith
-
-ascends-cons : (a : ℕ) (I : List ℕ) → ascends I ≡ true → ((x : ℕ) → IsIn x I → nat_lt a x ≡ true) → ascends (a ∷ I) ≡ true
-ascends-cons a [] up above = refl
-ascends-cons a (b ∷ I) up above = and_true (nat_lt a b) (ascends (b ∷ I)) (above b (inl refl)) up
-
-pub ascends-true_from : (first : ℕ) (values : List Bool) → ascends (true_from first values) ≡ true
-ascends-true_from first [] = refl
-ascends-true_from first (true ∷ values) =
-    ascends-cons first (true_from (suc first) values) (ascends-true_from (suc first) values)
-    (λ x i. lt-ltb first x (let h = true_from-above (suc first) values x i in omega arith))
-ascends-true_from first (false ∷ values) = ascends-true_from (suc first) values
 
 -- ---- the bound atoms
 

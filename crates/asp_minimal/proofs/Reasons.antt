@@ -78,20 +78,6 @@ reason_in_neg I U r atoms a e h = reason_neg I U r a (subst (λ (xs : List ℕ).
 pub reason_in_head : (I U : List ℕ) (r : GroundRule) (atoms : List ℕ) (a : ℕ) → atoms ≡ r.head → IsIn a atoms × (holds I a ≡ true) × (holds U a ≡ false) → IsReason I U r (record { atom = a; positive = false })
 reason_in_head I U r atoms a e h = reason_head I U r a (subst (λ (xs : List ℕ). IsIn a xs) e h.0) h.1 h.2
 
--- a rule with a head atom in the set and no atom of the positive body there supports it where nothing else keeps it from that
-pub open_supports : (I U : List ℕ) (r : GroundRule) → IsOpen I U r → list_any (holds U) r.head && not (list_any (holds U) r.pos) ≡ true → supports I U r ≡ true
-open_supports I U r h concerned =
-    let parts = both (list_any (holds U) r.head) (not (list_any (holds U) r.pos)) concerned in
-    let body = both (pos_in I r) (neg_out I r) h.body in
-    supports_from I U r (record {
-      head = parts.0;
-      pos = body.0;
-      neg = body.1;
-      free = all_from (λ a. not (holds U a)) r.pos (λ a i.
-          not_false _ (false_from (holds U a) (λ u. true_is_not_false _ (any_from (holds U) r.pos a i u) (not_true _ parts.1))));
-      closed = h.closed;
-    })
-
 -- another rule supports it nowhere
 pub unconcerned : (N U : List ℕ) (r : GroundRule) → list_any (holds U) r.head && not (list_any (holds U) r.pos) ≡ false → supports N U r ≡ false
 unconcerned N U r h = unsupported N U r (λ s.
@@ -110,16 +96,6 @@ blocks_nothing I U r clause h = record {
   false_here = refl;
   atoms = refl;
   blocked = λ N f. unconcerned N U r h;
-}
-
--- and one reason for another
-pub blocks_one : (I U : List ℕ) (r : GroundRule) (old new : List Lit) (l : Lit) → new ≡ old ++ l ∷ [] → IsReason I U r l → Blocks I U r old new
-blocks_one I U r old new l grown is = record {
-  more = l ∷ [];
-  grown = grown;
-  false_here = and_true (not (lit_true I l)) true (not_false _ is.false_here) refl;
-  atoms = and_true (holds (rule_atoms r) l.atom) true is.atom refl;
-  blocked = λ N f. is.blocks N (not_true _ ((both (not (lit_true N l)) true f).0));
 }
 
 -- ---- all rules

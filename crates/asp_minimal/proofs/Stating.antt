@@ -132,10 +132,6 @@ demands_from_adds old new clause test says adds = record {
   budget = ap (λ (s : SearchState). s.budget) adds.rest;
 }
 
--- what always holds is demanded of any search
-pub demands_nothing : (search : SearchState) (test : (ℕ → Bool) → Bool) → ((v : ℕ → Bool) → test v ≡ true) → Demands search search test
-demands_nothing search test holds = record { forth = λ v s t. s; back = λ v s. s; met = λ v s. holds v; atoms = refl; budget = refl }
-
 -- one demand after the other
 pub demands_both : (old middle new : SearchState) (one two both : (ℕ → Bool) → Bool) → ((v : ℕ → Bool) → both v ≡ one v && two v)
     → Demands old middle one → Demands middle new two → Demands old new both
@@ -181,11 +177,6 @@ pub any-bound : (I K : List ℕ) (numbers : List (Option ℕ)) (r : GroundRule) 
 any-bound I K numbers r clause is binding v =
     ap (list_any (truth v)) is ∙ any-clause_of v numbers r
     ∙ sym (ap (λ b. not b || (list_any (λ a. leaves v (number_at numbers a)) r.pos || list_any (λ a. remains v (number_at numbers a)) r.head)) binding)
-
--- and any other rule always
-pub unbound_allowed : (I K : List ℕ) (numbers : List (Option ℕ)) (r : GroundRule) → binds I K r ≡ false → (v : ℕ → Bool) → allows I K numbers v r ≡ true
-unbound_allowed I K numbers r unbound v =
-    ap (λ b. not b || (list_any (λ a. leaves v (number_at numbers a)) r.pos || list_any (λ a. remains v (number_at numbers a)) r.head)) unbound
 
 -- what follows from an Ok's clause
 pub on_ok : {A E P Q : Type 0} (result : Result A E) → (P → Q) → OnOk result P → OnOk result Q

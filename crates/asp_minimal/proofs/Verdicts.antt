@@ -3,7 +3,7 @@ use Rattle.std.proofs.Common.{ℕ, zero, suc, ◌≡◌, refl, sym, ◌∙◌, a
 use Rattle.std.specs.List.{list_any, list_all}
 use Rattle.std.proofs.lemmas.Bool.{or_left, or_right}
 use Rattle.asp_bits.specs.Places.{true_places}
-use Rattle.asp_reduct.proofs.Truths.{holds-true_places}
+use Rattle.asp_reduct.proofs.Truths.{holds-true_places, ascends-true_from}
 use Rattle.asp_defs.specs.declared.ground.GroundRule.{GroundRule}
 use Rattle.asp_defs.specs.Lists.{IsIn, is_empty}
 use Rattle.asp_defs.specs.Interpretations.{holds}
@@ -23,7 +23,7 @@ use Rattle.asp_minimal.specs.Demands.{allows, Demands}
 use Rattle.asp_minimal.proofs.Choosing.{false_from, refuted, model-with_choices, unfounded-of_rules, apart-of_choices}
 use Rattle.asp_minimal.proofs.Leaving.{Splits, no_support, allowed}
 use Rattle.asp_minimal.proofs.Stating.{found_meets, core_refutes}
-use Rattle.asp_minimal.proofs.Places.{bound-at, ascends-true_from, numbers_from-at, numbers_from-some, numbers_from-none, holds-leaving}
+use Rattle.asp_minimal.proofs.Places.{bound-at, numbers_from-at, numbers_from-some, numbers_from-none, holds-leaving}
 
 -- the interpretation, its bound part, and the numbers of the part's atoms
 abbrev pub part_of : List Bool → List ℕ → List Bool

@@ -1,56 +1,13 @@
-//! True and false atoms of a rule.
+//! Atoms of a rule that are true in one interpretation and false in another.
 
 ghost use Rattle.std.specs.Prelude.{◌≡◌, ◌<◌, true, false, not, ◌&&◌, IsTrue, MatchOption, length};
-ghost use Rattle.std.specs.List.{list_any, list_all};
+ghost use Rattle.std.specs.List.{list_all};
 ghost use Rattle.asp_bits.specs.Places.{true_places};
 ghost use Rattle.asp_defs.specs.Interpretations.{holds};
 ghost use Rattle.asp_defs.specs.Lists.{IsIn};
 ghost use Rattle.asp_reduct.specs.Bounds.{are_below};
 
 use asp_bits::Bits;
-
-/// Whether one of the atoms is true.
-pub fn any_true(atoms: &[u32], set: &Bits) -> bool
-    requires { IsTrue (are_below (length set.now) atoms.now) }
-    ensures { result ≡ list_any (holds (true_places set.now)) atoms.now }
-{
-    for atom in atoms {
-        if set.get(*atom) {
-            return true;
-        }
-    }
-    false
-}
-
-/// The first of the atoms that is false, or none where all are true.
-pub fn first_false(atoms: &[u32], set: &Bits) -> Option<u32>
-    requires { IsTrue (are_below (length set.now) atoms.now) }
-    ensures { MatchOption result
-        (list_all (holds (true_places set.now)) atoms.now ≡ true)
-        (λ atom. IsIn atom atoms.now × (holds (true_places set.now) atom ≡ false)) }
-{
-    for atom in atoms {
-        if !set.get(*atom) {
-            return Some(*atom);
-        }
-    }
-    None
-}
-
-/// The first of the atoms that is true, or none where all are false.
-pub fn first_true(atoms: &[u32], set: &Bits) -> Option<u32>
-    requires { IsTrue (are_below (length set.now) atoms.now) }
-    ensures { MatchOption result
-        (list_all (λ a. not (holds (true_places set.now) a)) atoms.now ≡ true)
-        (λ atom. IsIn atom atoms.now × (holds (true_places set.now) atom ≡ true)) }
-{
-    for atom in atoms {
-        if set.get(*atom) {
-            return Some(*atom);
-        }
-    }
-    None
-}
 
 /// Whether the atom is true in `set` and false in `part`.
 fn is_outside(atom: u32, set: &Bits, part: &Bits) -> bool

@@ -10,10 +10,11 @@ ghost use Rattle.asp_defs.specs.Unfounded.{supports, is_unfounded};
 ghost use Rattle.asp_reduct.specs.Bounds.{is_rule_below};
 ghost use Rattle.asp_minimal.specs.Nogoods.{denied, IsNogood, Blocks, IsReason, IsOpen};
 
-use crate::atoms::{any_true, first_false, first_outside, first_true};
+use crate::atoms::first_outside;
 use crate::numbers::write;
 use asp_bits::Bits;
 use asp_defs::{GroundRule, List, Lit, NoMemory};
+use asp_reduct::{any_true, first_false, first_true};
 use std::alloc::Global;
 
 /// The literals that these atoms are false.

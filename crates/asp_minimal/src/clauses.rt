@@ -7,11 +7,11 @@ ghost use Rattle.asp_reduct.specs.Bounds.{are_below, is_rule_below};
 ghost use Rattle.asp_minimal.specs.Numbers.{AreNumbers, leaves};
 ghost use Rattle.asp_minimal.specs.Demands.{literal_of, literals_at, clause_of, is_closed, binds as is_binding, allows, Demands};
 
-use crate::atoms::{any_true, first_outside};
+use crate::atoms::first_outside;
 use crate::numbers::number_of;
 use asp_bits::Bits;
 use asp_defs::{GroundRule, NoMemory};
-use asp_reduct::body_true;
+use asp_reduct::{any_true, body_true};
 use asp_search::Search;
 use std::alloc::Global;
 

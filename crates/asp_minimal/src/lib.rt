@@ -13,7 +13,7 @@
 //! # Map
 //! | module | state or step |
 //! |---|---|
-//! | `atoms` | true and false atoms of a rule |
+//! | `atoms` | which atoms are true in one interpretation and false in another |
 //! | `numbers` | which atoms the search has, and under which number |
 //! | `clauses` | the clauses that the search is given |
 //! | `minimality` | the call `minimal` |
@@ -28,6 +28,3 @@ mod numbers;
 
 pub use blocking::nogood;
 pub use minimality::{Minimality, minimal};
-
-#[cfg(test)]
-mod tests;

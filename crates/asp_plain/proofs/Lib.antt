@@ -4,7 +4,6 @@ pub mod Beside
 pub mod Between
 pub mod Bounds
 pub mod Calls
-pub mod Checking
 pub mod Claims
 pub mod Coherence
 pub mod Cubes

@@ -9,7 +9,7 @@ use Rattle.std.proofs.lemmas.List.{get_or_past, length-drop}
 use Rattle.std.proofs.lemmas.List.Elements.{All-map}
 use Rattle.std.proofs.lemmas.List.FromFn.{length-map-range_with_len, get_or-map-range_with_len}
 use Rattle.asp_bits.specs.Places.{true_from, true_places}
-use Rattle.asp_reduct.proofs.Truths.{holds-true_places}
+use Rattle.asp_reduct.proofs.Truths.{holds-true_places, ascends-true_from}
 use Rattle.asp_defs.specs.declared.ground.Game.{Game}
 use Rattle.asp_defs.specs.declared.syntax.Quant.{Quant}
 use Rattle.asp_defs.specs.Lists.{IsIn}
@@ -28,7 +28,7 @@ use Rattle.asp_plain.proofs.Bounds.{atom-below}
 use Rattle.asp_plain.proofs.Coherence.{HasBases-valid, value-same, stands-nothing}
 use Rattle.asp_plain.proofs.Known.{told}
 use Rattle.asp_plain.proofs.Minimal.{answer-same}
-use Rattle.asp_plain.proofs.Moves.{ascends-cons, subset-ascends}
+use Rattle.asp_plain.proofs.Moves.{subset-ascends}
 use Rattle.asp_plain.proofs.Standing.{map-map, Stands, stands-mask_of, candidates-atoms}
 
 -- ---- ascending lists
@@ -67,20 +67,6 @@ same_ascending (a ∷ I) (b ∷ J) up down same = elim (cases_order a b) [
         | inr e ↦ let above : a < b = ascends-member a I b up (holds_at I b e) in absurd (omega arith)
       ]
 ]
-
--- the true places ascend from the first place on
-true_from-above : (first : ℕ) (values : List Bool) (x : ℕ) → IsIn x (true_from first values) → first ≤ x
-true_from-above first [] x i = absurd i
-true_from-above first (true ∷ values) x (inl e) = omega arith
-true_from-above first (true ∷ values) x (inr i) = let h = true_from-above (suc first) values x i in omega arith
-true_from-above first (false ∷ values) x i = let h = true_from-above (suc first) values x i in omega arith
-
-ascends-true_from : (first : ℕ) (values : List Bool) → ascends (true_from first values) ≡ true
-ascends-true_from first [] = refl
-ascends-true_from first (true ∷ values) =
-    ascends-cons first (true_from (suc first) values) (ascends-true_from (suc first) values)
-    (λ x i. lt-ltb first x (let h = true_from-above (suc first) values x i in omega arith))
-ascends-true_from first (false ∷ values) = ascends-true_from (suc first) values
 
 -- the interpretation of a subset's mask is the subset
 restored : (count : ℕ) (B J : List ℕ) → ascends B ≡ true → ((a : ℕ) → holds B a ≡ true → a < count) → IsIn J (subsets B)

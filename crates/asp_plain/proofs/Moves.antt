@@ -13,6 +13,7 @@ use Rattle.asp_defs.specs.Games.{ascends}
 use Rattle.asp_defs.proofs.Lists.{all_at, all_from, any_at, any_from, filter_at, filter_from, map_at, map_from}
 use Rattle.asp_defs.proofs.Subsets.{subset-holds, subset-member, subset_at, filter-subset, ascends-tail, ascends-member}
 use Rattle.asp_defs.proofs.AnswerSetLaws.{answer_set-model}
+use Rattle.asp_reduct.proofs.Truths.{ascends-cons}
 use Rattle.asp_plain.specs.declared.masks.Level.{Level}
 use Rattle.asp_plain.specs.Masks.{with_atom, mask_of, candidates}
 use Rattle.asp_plain.specs.Levels.{IsMasked, has_answer}
@@ -22,10 +23,6 @@ use Rattle.asp_plain.proofs.Fixing.{is_fixed, false_atoms, model-fixed}
 use Rattle.asp_plain.proofs.Known.{told}
 use Rattle.asp_plain.proofs.Minimal.{answer-same}
 use Rattle.asp_plain.proofs.Standing.{Stands, holds-filter, stands-filter, stands-mask_of, stands-within, candidates-atoms}
-
-pub ascends-cons : (b : ℕ) (K : List ℕ) → ascends K ≡ true → ((x : ℕ) → IsIn x K → nat_lt b x ≡ true) → ascends (b ∷ K) ≡ true
-ascends-cons b [] up below = refl
-ascends-cons b (c ∷ K) up below = and_from (nat_lt b c) (ascends (c ∷ K)) (below c (inl refl)) up
 
 -- the subsets of an ascending base ascend
 pub subset-ascends : (B J : List ℕ) → ascends B ≡ true → IsIn J (subsets B) → ascends J ≡ true

@@ -1,4 +1,3 @@
-pub mod Checked
 pub mod Cubes
 pub mod Levels
 pub mod Masks

@@ -74,6 +74,3 @@ pub fn listing(alloc: Global, game: &Game) -> Result<List<Bits>, NoMemory>
     let won = sets::won_sets(alloc, behind, levels.as_slice())?;
     sets::interpretations(alloc, game.bases.atoms.len() as u32, won.as_slice())
 }
-
-#[cfg(test)]
-mod tests;

@@ -1,54 +1,24 @@
-//! Rules in an interpretation: the truth of their bodies, whether they are satisfied, and their reduct.
+//! Rules in an interpretation: which of their atoms are true, the truth of their bodies, whether they are satisfied, and
+//! their reduct.
 //!
 //! An interpretation is a [`Bits`] with a place for each atom. Contracts see it as the ascending list of its true places,
 //! which is what the definitions speak of. Only `reduct` takes memory.
 #![tactic(auto)]
 
-ghost use Rattle.std.specs.Prelude.{◌≡◌, not, IsTrue, IfOk, length};
-ghost use Rattle.std.specs.List.{list_any, list_all};
+ghost use Rattle.std.specs.Prelude.{◌≡◌, IsTrue, IfOk, length};
+ghost use Rattle.std.specs.List.{list_all};
 ghost use Rattle.asp_bits.specs.Places.{true_places};
-ghost use Rattle.asp_defs.specs.Interpretations.{holds};
 ghost use Rattle.asp_defs.specs.Truth.{body_true as is_body_true, satisfies as is_satisfied};
 ghost use Rattle.asp_defs.specs.Reduct.{stays as is_kept, positive_part as positive_part_of, reduct as reduct_of};
-ghost use Rattle.asp_reduct.specs.Bounds.{are_below, is_rule_below};
+ghost use Rattle.asp_reduct.specs.Bounds.{is_rule_below};
 
+mod atoms;
+
+use crate::atoms::{all_true, none_true};
 use asp_bits::Bits;
 use asp_defs::{GroundRule, List, NoMemory};
+pub use atoms::{any_true, first_false, first_true};
 use std::alloc::Global;
-
-/// Whether each of the atoms is true.
-fn all_true(atoms: &[u32], set: &Bits) -> bool
-    requires { IsTrue (are_below (length set.now) atoms.now) }
-    ensures { result ≡ list_all (holds (true_places set.now)) atoms.now }
-{
-    for atom in atoms {
-        if !set.get(*atom) {
-            return false;
-        }
-    }
-    true
-}
-
-/// Whether one of the atoms is true.
-fn any_true(atoms: &[u32], set: &Bits) -> bool
-    requires { IsTrue (are_below (length set.now) atoms.now) }
-    ensures { result ≡ list_any (holds (true_places set.now)) atoms.now }
-{
-    for atom in atoms {
-        if set.get(*atom) {
-            return true;
-        }
-    }
-    false
-}
-
-/// Whether none of the atoms is true.
-fn none_true(atoms: &[u32], set: &Bits) -> bool
-    requires { IsTrue (are_below (length set.now) atoms.now) }
-    ensures { result ≡ list_all (λ a. not (holds (true_places set.now) a)) atoms.now }
-{
-    !any_true(atoms, set)
-}
 
 /// Whether the body is true: each atom of the positive body is, and none of the negative body.
 pub fn body_true(rule: &GroundRule, set: &Bits) -> bool
@@ -103,6 +73,3 @@ pub fn reduct(alloc: Global, rules: &[GroundRule], set: &Bits) -> Result<List<Gr
     }
     Ok(parts)
 }
-
-#[cfg(test)]
-mod tests;

@@ -10,17 +10,15 @@ use Rattle.asp_search.specs.Meaning.{truth, AddsClause}
 use Rattle.asp_search.specs.Marks.{AreCodes, AreDistinct}
 use Rattle.asp_search.specs.Solver.{IsReady}
 use Rattle.asp_search.specs.Clause.{IsTautology, Collects, KeepsBook}
-use Rattle.asp_search.proofs.Truth.{negated-negated, negated-differs, same_or_negated, true_or_negated}
+use Rattle.asp_clauses.proofs.LiteralLemmas.{negated-negated, negated-≢, same_half}
+use Rattle.asp_search.proofs.Truth.{true_or_negated}
 use Rattle.asp_search.proofs.Clauses.{AddsClause-push}
-use Rattle.asp_search.proofs.MarkTables.{Contains-at}
+use Rattle.asp_clauses.proofs.ReorderLemmas.{Contains-at}
 
 pub Contains-take : (n : ℕ) (xs : List ℕ) (x : ℕ) → Contains (take n xs) x → Contains xs x
 Contains-take n xs x c =
     let low : c.0 < n = omega (arith, c.1, length-take n xs) in
     (c.0, omega (arith, c.1, length-take n xs), sym (get_or-take n xs c.0 x low) ∙ c.2)
-
-pub Collects-none : Collects [] []
-Collects-none = record { from = λ l c. c; to = λ l c. c; apart = λ l c n. absurd (omega (arith, c.1)) }
 
 -- a literal that is there already
 pub Collects-had : (front collected : List ℕ) (literal : ℕ) → Contains collected literal → Collects front collected → Collects (front ++ literal ∷ []) collected
@@ -57,7 +55,7 @@ Collects-new front collected literal absent c = record {
       (λ (e : literal ≡ l).
       ⊎_elim
       (λ (old_n : Contains collected (negated l)). absent (subst (λ (x : ℕ). Contains collected (negated x)) (sym e) old_n))
-      (λ (q : literal ≡ negated l). negated-differs l (sym q ∙ e))
+      (λ (q : literal ≡ negated l). negated-≢ l (sym q ∙ e))
       (Contains-push_cases collected literal (negated l) n))
       (Contains-push_cases collected literal l h);
 }
@@ -72,7 +70,7 @@ IsClause-collected atoms clause collected codes distinct c = record {
       (λ (same : get_or collected j 0 ≡ get_or collected i 0). distinct i j low within (sym same))
       (λ (opposite : get_or collected j 0 ≡ negated (get_or collected i 0)).
       c.apart (get_or collected i 0) (Contains-at collected i here) (subst (λ (x : ℕ). Contains collected x) opposite (Contains-at collected j within)))
-      (same_or_negated (get_or collected i 0) (get_or collected j 0) e);
+      (same_half (get_or collected j 0) (get_or collected i 0) (sym e));
 }
 
 -- and mean the clause

@@ -10,7 +10,9 @@ use Rattle.asp_clauses.specs.Literal.{negated}
 use Rattle.asp_clauses.specs.Trail.{literal_at, step_at, level_at, is_decision, IsPlaced, IsUnassigned, IsFalse, IsLawful, clause_at}
 use Rattle.asp_search.specs.Meaning.{MentionedIn}
 use Rattle.asp_search.specs.Analysis.{IsFixed, AreMarked, open_below, AreApart, AtMost, Before, Blames, IsTopLevel, IsWalk, IsCut, IsHighest}
-use Rattle.asp_search.proofs.Truth.{Contains-cases, negated-half, negated-differs}
+use Rattle.asp_clauses.proofs.LiteralLemmas.{negated-half, negated-≢}
+use Rattle.asp_clauses.proofs.FewLemmas.{not_both}
+use Rattle.asp_search.proofs.Truth.{Contains-cases}
 use Rattle.asp_search.proofs.Trails.{level_at-le, level_at-before-decision, placed_before}
 use Rattle.asp_search.proofs.Resolution.{Refutes-conflict, Refutes-resolved, Refutes-passed}
 use Rattle.asp_search.proofs.Counting.{open_below-push, open_below-push_other, open_below-none, open_below-some, open_below-marked, open_below-passed}
@@ -29,27 +31,6 @@ same_place steps apart p q hp hq e =
 
 pub same_place-literal : (steps : List Step) → AreApart steps → (p q : ℕ) → p < length steps → q < length steps → literal_at steps p ≡ literal_at steps q → p ≡ q
 same_place-literal steps apart p q hp hq e = same_place steps apart p q hp hq (ap (λ (l : ℕ). l / 2) e)
-
--- a literal and its negation aren't both placed
-pub not_both : (steps : List Step) → AreApart steps → (literal : ℕ) → IsPlaced steps literal → IsPlaced steps (negated literal) → ⊥
-not_both steps apart literal p n =
-    let e : p.0 ≡ n.0 = same_place steps apart p.0 n.0 p.1 n.1 (omega (arith, p.2, n.2, negated-half literal)) in
-    negated-differs literal (sym n.2 ∙ (ap (λ (k : ℕ). literal_at steps k) (sym e) ∙ p.2))
-
-pub unassigned_unplaced : (steps : List Step) (literal : ℕ) → IsUnassigned steps literal → IsPlaced steps literal → ⊥
-unassigned_unplaced steps literal u p = u p.0 p.1 (ap (λ (l : ℕ). l / 2) p.2)
-
--- nothing new to mark
-pub Blames-same : (steps : List Step) (literal level : ℕ) (old : List ℕ) → AreMarked steps level old → (IsPlaced steps (negated literal) → IsFixed steps (negated literal) ⊎ Contains old (negated literal)) → Blames steps (literal ∷ []) level old old 0
-Blames-same steps literal level old marked covers = record {
-  grows = λ l c. c;
-  covers = λ l c placed.
-      let e = only_one literal l c in
-      subst (λ (x : ℕ). IsFixed steps (negated x) ⊎ Contains old (negated x)) e (covers (subst (λ (x : ℕ). IsPlaced steps (negated x)) (sym e) placed));
-  marked = marked;
-  counts = λ end h b. omega arith;
-  mentions = λ l c. inl c;
-}
 
 -- one new mark
 module _ (steps : List Step) (apart : AreApart steps) (literal level place : ℕ) (old : List ℕ) (marked : AreMarked steps level old) (within : place < length steps) (is : literal_at steps place ≡ negated literal) (above : 0 < level_at steps place) (most : level_at steps place ≤ level) (fresh : Contains old (negated literal) → ⊥) where
@@ -80,15 +61,6 @@ module _ (steps : List Step) (apart : AreApart steps) (literal level place : ℕ
   pub Blames-lower : level_at steps place ≢ level → Blames steps (literal ∷ []) level old (old ++ negated literal ∷ []) 0
   Blames-lower not_at = Blames-mark 0 (λ end h b.
       subst (λ (x : ℕ). open_below (old ++ x ∷ []) steps level end ≡ open_below old steps level end + 0) is (omega (arith, open_below-push_other steps apart old level place within not_at end h)))
-
-pub Blames-none : (steps : List Step) (level : ℕ) (old : List ℕ) → AreMarked steps level old → Blames steps [] level old old 0
-Blames-none steps level old marked = record {
-  grows = λ l c. c;
-  covers = λ l c placed. absurd (omega (arith, c.1));
-  marked = marked;
-  counts = λ end h b. omega arith;
-  mentions = λ l c. inl c;
-}
 
 -- one literal more
 pub Blames-more : (steps : List Step) (front : List ℕ) (literal level : ℕ) (old middle new : List ℕ) (m n : ℕ) → Blames steps front level old middle m → Blames steps (literal ∷ []) level middle new n → Blames steps (front ++ literal ∷ []) level old new (m + n)
@@ -125,9 +97,6 @@ none_open steps level end =
     (cases_lt 0 (open_below [] steps level end))
 
 -- ---- the level of a conflict
-
-pub IsTopLevel-none : (steps : List Step) → IsTopLevel steps [] 0
-IsTopLevel-none steps = record { most = λ l p c within is. absurd (omega (arith, c.1)); reached = λ h. absurd (omega (arith, h)) }
 
 pub ord_max-highest : (a b : ℕ) → IsHighest a b (ord_max nat_cmp a b)
 ord_max-highest a b =
@@ -250,7 +219,7 @@ module _ (atoms : ℕ) (clauses : List (List ℕ)) (steps : List Step) (lawful :
       let r = lawful.reasoned place within number reason in
       ⊎_elim
       (λ (e : l ≡ literal_at steps place).
-      absurd (not_both steps lawful.distinct l (place, within, sym e) (p, inside, is)))
+      absurd (not_both steps l lawful.distinct (place, within, sym e) (p, inside, is)))
       (λ (n : l ≡ literal_at steps place → ⊥).
       let b = placed_before steps place (negated l) (r.1.others_fail l c n) in
       let same : p ≡ b.0 = same_place-literal steps lawful.distinct p b.0 inside b.2 (is ∙ sym b.3) in

@@ -35,9 +35,6 @@ open_start : (marked : List ℕ) (steps : List Step) (level : ℕ) → open_belo
 unfolding open_below
 open_start marked steps level = refl
 
-pub open_below-zero : (marked : List ℕ) (steps : List Step) (level : ℕ) → open_below marked steps level 0 ≡ 0
-open_below-zero marked steps level = open_start marked steps level
-
 one_if : (b : Bool) → b ≡ true → cond {A = ℕ} b 1 0 ≡ 1
 one_if b h = cond-true {A = ℕ} b 1 0 h
 

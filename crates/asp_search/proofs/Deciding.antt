@@ -12,11 +12,12 @@ use Rattle.asp_search.specs.Meaning.{truth, SatisfiesAll}
 use Rattle.asp_search.specs.Analysis.{AreApart, is_member}
 use Rattle.asp_search.specs.Solver.{IsCursor, AreInRange}
 use Rattle.asp_search.specs.Found.{IsTotal, literals_of, assignment_of}
-use Rattle.asp_search.proofs.Truth.{parity, negated-even, negated-odd, truth-odd, truth-even, same_or_negated, Contains-tail, Contains-cases}
+use Rattle.asp_clauses.proofs.LiteralLemmas.{is_even, negated_even, negated_odd, same_half}
+use Rattle.asp_search.proofs.Truth.{truth-odd, truth-even, Contains-tail, Contains-cases}
 use Rattle.asp_search.proofs.Trails.{level_at-le-decisions}
 use Rattle.asp_search.proofs.Counting.{member-Contains, not_member}
-use Rattle.asp_search.proofs.MarkTables.{Contains-place}
-use Rattle.asp_search.proofs.Blaming.{not_both}
+use Rattle.asp_clauses.proofs.ReorderLemmas.{Contains-place}
+use Rattle.asp_clauses.proofs.FewLemmas.{not_both}
 use Rattle.asp_search.proofs.Stepping.{Begins-append, level_at-begins, decisions-push-le}
 
 -- ---- the cursor
@@ -84,7 +85,7 @@ unassigned_from steps literal itself opposite place within same =
     ⊎_elim
     (λ (e : literal_at steps place ≡ literal). itself (place, within, e))
     (λ (e : literal_at steps place ≡ negated literal). opposite (place, within, e))
-    (same_or_negated literal (literal_at steps place) (sym same))
+    (same_half (literal_at steps place) literal same)
 
 -- ---- a full trail
 
@@ -103,13 +104,13 @@ truth_placed steps apart literal placed =
     let v = assignment_of (literals_of steps) in
     ⊎_elim
     (λ (even : literal % 2 ≡ 0).
-    let code : 2 * (literal / 2) + 1 ≡ negated literal = omega (arith, negated-even literal even) in
-    let absent : is_member (literals_of steps) (2 * (literal / 2) + 1) ≡ false = not_member (literals_of steps) (2 * (literal / 2) + 1) (λ c. not_both steps apart literal placed (subst (λ (l : ℕ). IsPlaced steps l) code (placed_from steps (2 * (literal / 2) + 1) c))) in
+    let code : 2 * (literal / 2) + 1 ≡ negated literal = omega (arith, negated_even literal even) in
+    let absent : is_member (literals_of steps) (2 * (literal / 2) + 1) ≡ false = not_member (literals_of steps) (2 * (literal / 2) + 1) (λ c. not_both steps literal apart placed (subst (λ (l : ℕ). IsPlaced steps l) code (placed_from steps (2 * (literal / 2) + 1) c))) in
     truth-even v literal even ∙ not_from_false _ absent)
     (λ (odd : literal % 2 ≡ 1).
     let code : 2 * (literal / 2) + 1 ≡ literal = omega (arith, odd) in
     truth-odd v literal odd ∙ member-Contains (literals_of steps) (2 * (literal / 2) + 1) (subst (λ (l : ℕ). Contains (literals_of steps) l) (sym code) (Contains-literals steps literal placed)))
-    (parity literal)
+    (is_even literal)
 
 -- the clause has a true literal, or all are false
 placed_or_false : (steps : List Step) (clause : List ℕ) → ((literal : ℕ) → Contains clause literal → IsPlaced steps literal ⊎ IsPlaced steps (negated literal)) → ((literal : ℕ) × Contains clause literal × IsPlaced steps literal) ⊎ IsFalse steps clause
@@ -129,14 +130,14 @@ has_value atoms steps total literal low =
     ⊎_elim
     (λ (p : IsPlaced steps (2 * (literal / 2) + 1)).
     ⊎_elim
-    (λ (even : literal % 2 ≡ 0). inr (subst (λ (l : ℕ). IsPlaced steps l) (omega (arith, negated-even literal even)) p))
+    (λ (even : literal % 2 ≡ 0). inr (subst (λ (l : ℕ). IsPlaced steps l) (omega (arith, negated_even literal even)) p))
     (λ (odd : literal % 2 ≡ 1). inl (subst (λ (l : ℕ). IsPlaced steps l) (omega (arith, odd)) p))
-    (parity literal))
+    (is_even literal))
     (λ (p : IsPlaced steps (2 * (literal / 2))).
     ⊎_elim
     (λ (even : literal % 2 ≡ 0). inl (subst (λ (l : ℕ). IsPlaced steps l) (omega (arith, even)) p))
-    (λ (odd : literal % 2 ≡ 1). inr (subst (λ (l : ℕ). IsPlaced steps l) (omega (arith, negated-odd literal odd)) p))
-    (parity literal))
+    (λ (odd : literal % 2 ≡ 1). inr (subst (λ (l : ℕ). IsPlaced steps l) (omega (arith, negated_odd literal (omega arith))) p))
+    (is_even literal))
     (total (literal / 2) (omega (arith, low)))
 
 pub clauses_satisfied : (book : BookState) (atoms : ℕ) (steps : List Step) → AreApart steps → AreInRange atoms book.clauses → IsTotal atoms steps → IsFixpoint book steps → SatisfiesAll (assignment_of (literals_of steps)) book.clauses

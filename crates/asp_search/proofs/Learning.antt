@@ -10,10 +10,10 @@ use Rattle.asp_clauses.specs.Trail.{literal_at, level_at, IsLawful}
 use Rattle.asp_search.specs.Meaning.{Mentions}
 use Rattle.asp_search.specs.Marks.{AreDistinct}
 use Rattle.asp_search.specs.Analysis.{IsCut, IsTaken, IsLearning, IsLearned, IsPassed, IsAdded, Takes, IsRedundant}
-use Rattle.asp_search.proofs.Truth.{negated-half, negated-negated, negated-lt}
+use Rattle.asp_clauses.proofs.LiteralLemmas.{negated-half, negated-negated, negated-lt}
 use Rattle.asp_search.proofs.Trails.{level_at-le, level_at-le-decisions, placed_back, unassigned_back}
 use Rattle.asp_search.proofs.Resolution.{learned_follows}
-use Rattle.asp_search.proofs.MarkTables.{Contains-place, Contains-at}
+use Rattle.asp_clauses.proofs.ReorderLemmas.{Contains-place, Contains-at}
 use Rattle.asp_search.proofs.Blaming.{same_place, same_place-literal}
 
 module _ (atoms : ℕ) (clauses : List (List ℕ)) (steps : List Step) (lawful : IsLawful atoms clauses steps) (marked : List ℕ) (level place : ℕ) (cut : IsCut clauses steps marked level place) where
@@ -130,9 +130,9 @@ module _ (atoms : ℕ) (clauses : List (List ℕ)) (steps : List Step) (lawful :
     clause = record {
       in_range = λ a within.
           ⊎_elim
-          (λ (e : get_or learned a 0 ≡ negated (literal_at steps place)). rw e (negated-lt atoms (literal_at steps place) (lawful.in_range place cut.within)))
+          (λ (e : get_or learned a 0 ≡ negated (literal_at steps place)). rw e (negated-lt (literal_at steps place) atoms (lawful.in_range place cut.within)))
           (λ (t : IsTaken steps marked place (length marked) target (get_or learned a 0)).
-          rw (t.is, ← t.there) (negated-lt atoms (literal_at steps t.at) (lawful.in_range t.at (omega (arith, t.lower, cut.within)))))
+          rw (t.is, ← t.there) (negated-lt (literal_at steps t.at) atoms (lawful.in_range t.at (omega (arith, t.lower, cut.within)))))
           (learning.each a within);
       distinct = learning.distinct;
     };
@@ -143,7 +143,7 @@ module _ (atoms : ℕ) (clauses : List (List ℕ)) (steps : List Step) (lawful :
         (λ (r : IsRedundant clauses steps marked p). inr r)
         (learning.treated k.0 p k.1 before (sym k.2)));
     lower = omega (arith, learning.below, cut.at_level, level_at-le-decisions steps place);
-    code = negated-lt atoms (literal_at steps place) (lawful.in_range place cut.within);
+    code = negated-lt (literal_at steps place) atoms (lawful.in_range place cut.within);
     implies = record {
       has = learning.has;
       others_fail = λ other c ne.

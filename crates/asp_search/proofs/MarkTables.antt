@@ -5,13 +5,7 @@ use Rattle.std.proofs.lemmas.List.{get_or-set_same, get_or-set_other, length-set
 use Rattle.std.proofs.lemmas.List.Elements.{Contains-append_left, Contains-push, Contains-push_cases, Contains-get_or}
 use Rattle.std.proofs.lemmas.Bool.{cases_eq, cases_lt, false≢true}
 use Rattle.asp_search.specs.Marks.{AreDistinct, AreCodes, IsTable}
-
--- where a member stands, read with the default 0
-pub Contains-place : (xs : List ℕ) (x : ℕ) → Contains xs x → (k : ℕ) × (k < length xs) × (get_or xs k 0 ≡ x)
-Contains-place xs x c = (c.0, c.1, get_or_default xs c.0 0 x c.1 ∙ c.2)
-
-pub Contains-at : (xs : List ℕ) (k : ℕ) → k < length xs → Contains xs (get_or xs k 0)
-Contains-at xs k h = Contains-get_or xs k 0 h
+use Rattle.asp_clauses.proofs.ReorderLemmas.{Contains-place, Contains-at}
 
 pub AreCodes-push : (limit : ℕ) (xs : List ℕ) (x : ℕ) → x < limit → AreCodes limit xs → AreCodes limit (xs ++ x ∷ [])
 AreCodes-push limit xs x low h i within =

@@ -8,7 +8,8 @@ use Rattle.asp_clauses.specs.Literal.{negated}
 use Rattle.asp_clauses.specs.Trail.{step_at, literal_at, level_at, IsPlaced, IsFalse, clause_at, IsLawful}
 use Rattle.asp_search.specs.Meaning.{truth, Satisfies, SatisfiesAll}
 use Rattle.asp_search.specs.Analysis.{Refutes, IsFixed, Covers, IsRedundant}
-use Rattle.asp_search.proofs.Truth.{true-negated, negated-negated, satisfied_or_false}
+use Rattle.asp_clauses.proofs.LiteralLemmas.{negated-negated}
+use Rattle.asp_search.proofs.Truth.{true-negated, satisfied_or_false}
 use Rattle.asp_search.proofs.Trails.{placed_before, level_at-le, not_decision-at-zero, has_reason}
 
 -- a clause all whose other literals are false makes the literal true

@@ -11,6 +11,7 @@ use Rattle.asp_clauses.specs.Trail.{TrailState, no_step, step_at, literal_at, is
 use Rattle.asp_clauses.specs.Book.{Goes, IsClause, SameClauses}
 use Rattle.asp_clauses.specs.Moves.{Places}
 use Rattle.asp_clauses.specs.Visits.{Extends}
+use Rattle.asp_clauses.proofs.StepsLemmas.{decisions-push_yes, decisions-push_no}
 use Rattle.asp_search.specs.declared.solver.Solver.{Solver}
 use Rattle.asp_search.specs.Meaning.{SameMeaning}
 use Rattle.asp_search.specs.Cores.{IsCore}
@@ -18,7 +19,7 @@ use Rattle.asp_search.specs.Analysis.{IsTopLevel}
 use Rattle.asp_search.specs.Solver.{DecidesAssumed, IsCursor, IsReady, AreInRange, AreRefuted, Stays}
 use Rattle.asp_search.proofs.Clauses.{SameMeaning-refl, SameMeaning-then, SameMeaning-reordered}
 use Rattle.asp_search.proofs.Trails.{kept_place, back_to-within, back_to-step, decisions-back_to}
-use Rattle.asp_search.proofs.MarkTables.{Contains-place}
+use Rattle.asp_clauses.proofs.ReorderLemmas.{Contains-place}
 use Rattle.asp_search.proofs.Resolution.{fixed_true, false_unsatisfied}
 
 -- both lists have the same first steps
@@ -93,15 +94,11 @@ DecidesAssumed-decided assumed old step why decides p within is =
     why)
     (cases_lt p (length old))
 
-decisions-push-implied : (steps : List Step) (step : Step) → is_decision step ≡ false → decisions (steps ++ step ∷ []) ≡ decisions steps
-decisions-push-implied steps step h =
-    omega (arith, sum_by_push (λ (s : Step). cond (is_decision s) 1 0) steps step, cond-false {A = ℕ} (is_decision step) 1 0 h)
-
 pub decisions-push-le : (steps : List Step) (step : Step) → decisions (steps ++ step ∷ []) ≤ decisions steps + 1
 decisions-push-le steps step =
     ⊎_elim
-    (λ (t : is_decision step ≡ true). omega (arith, sum_by_push (λ (s : Step). cond (is_decision s) 1 0) steps step, cond-true {A = ℕ} (is_decision step) 1 0 t))
-    (λ (f : is_decision step ≡ false). omega (arith, decisions-push-implied steps step f))
+    (λ (t : is_decision step ≡ true). omega (arith, decisions-push_yes steps step t))
+    (λ (f : is_decision step ≡ false). omega (arith, decisions-push_no steps step f))
     (cases_Bool (is_decision step))
 
 -- the lower of two numbers
@@ -131,7 +128,7 @@ IsCursor-back assumed old step cursor level lower implied above low c =
       decided = λ h.
           ⊎_elim
           (λ (e : lower ≡ cursor). ⊎_elim (λ (x : cursor < length assumed). absurd (omega (arith, c.decided x, above, e, low.right))) (λ (x : length assumed ≤ cursor). absurd (omega (arith, h, e, x))) (cases_lt cursor (length assumed)))
-          (λ (e : lower ≡ level). omega (arith, e, decisions-push-implied (back_to level old) step implied, decisions-back_to old level))
+          (λ (e : lower ≡ level). omega (arith, e, decisions-push_no (back_to level old) step implied, decisions-back_to old level))
           low.one;
     }
 

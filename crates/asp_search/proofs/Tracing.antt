@@ -11,11 +11,13 @@ use Rattle.asp_search.specs.Meaning.{truth, MentionedIn, Mentions}
 use Rattle.asp_search.specs.Analysis.{IsFixed, Blames}
 use Rattle.asp_search.specs.Cores.{IsBlamed, IsTrace, IsCore}
 use Rattle.asp_search.specs.Solver.{AreAssumptions, DecidesAssumed}
-use Rattle.asp_search.proofs.Truth.{Contains-cases, true-negated, negated-half, negated-differs}
+use Rattle.asp_clauses.proofs.LiteralLemmas.{negated-half, negated-≢}
+use Rattle.asp_search.proofs.Truth.{Contains-cases, true-negated}
 use Rattle.asp_search.proofs.Trails.{has_reason, placed_before}
 use Rattle.asp_search.proofs.Resolution.{fixed_true, Refutes-resolved, Refutes-passed, Refutes-kept}
-use Rattle.asp_search.proofs.MarkTables.{Contains-place}
-use Rattle.asp_search.proofs.Blaming.{same_place, not_both}
+use Rattle.asp_clauses.proofs.ReorderLemmas.{Contains-place}
+use Rattle.asp_clauses.proofs.FewLemmas.{not_both}
+use Rattle.asp_search.proofs.Blaming.{same_place}
 
 only : (x y : ℕ) → Contains (x ∷ []) y → x ≡ y
 only x y c = ⊎_elim (λ (e : x ≡ y). e) (λ (t : Contains [] y). absurd (omega (arith, t.1))) (Contains-cases x [] y c)
@@ -48,15 +50,6 @@ module _ (atoms : ℕ) (clauses : List (List ℕ)) (steps : List Step) (lawful :
   }
 
   module _ (marked core : List ℕ) (place : ℕ) (within : place < length steps) (trace : IsTrace clauses steps marked (suc place) core) where
-    pub IsTrace-passed : (Contains marked (literal_at steps place) → ⊥) → IsTrace clauses steps marked place core
-    IsTrace-passed unmarked = record {
-      refutes = Refutes-passed atoms clauses steps lawful marked core place unmarked trace.refutes;
-      levels = trace.levels;
-      some = trace.some;
-      mentions = trace.mentions;
-      members = trace.members;
-    }
-
     pub IsTrace-resolved : (number blamed : ℕ) (more : List ℕ) → (step_at steps place).reason ≡ Some number → Blames steps (clause_at clauses number) (decisions steps) marked more blamed → IsTrace clauses steps more place core
     IsTrace-resolved number blamed more reason b =
         let r = lawful.reasoned place within number reason in
@@ -114,7 +107,7 @@ module _ (atoms : ℕ) (clauses : List (List ℕ)) (steps : List Step) (lawful :
         (λ (c : Contains assumed (literal_at steps p)). c)
         (λ (all : (literal : ℕ) → Contains assumed literal → IsPlaced (take p steps) literal).
         let b = placed_before steps p failed (all failed has) in
-        absurd (not_both steps lawful.distinct failed (b.0, b.2, b.3) fails))
+        absurd (not_both steps failed lawful.distinct (b.0, b.2, b.3) fails))
         (decides p within is)
 
     decided_assumed : (literal : ℕ) → IsBlamed steps marked literal → Contains assumed literal
@@ -139,7 +132,7 @@ module _ (atoms : ℕ) (clauses : List (List ℕ)) (steps : List Step) (lawful :
         (λ (b : j.0 < i.0). assumptions.distinct j.0 i.0 b i.1 (omega (arith, i.2, j.2, negated-half failed)))
         (λ (w : i.0 ≤ j.0).
         let e : i.0 ≡ j.0 = omega (arith, u, w) in
-        negated-differs failed (sym j.2 ∙ (ap (λ (k : ℕ). get_or assumed k 0) (sym e) ∙ i.2)))
+        negated-≢ failed (sym j.2 ∙ (ap (λ (k : ℕ). get_or assumed k 0) (sym e) ∙ i.2)))
         (cases_lt j.0 i.0))
         (cases_lt i.0 j.0)
 

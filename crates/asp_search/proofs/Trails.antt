@@ -7,12 +7,10 @@ use Rattle.std.proofs.lemmas.Bool.{cases_Bool, cases_lt, cond-true, cond-false, 
 use Rattle.asp_clauses.specs.declared.trail.Step.{Step}
 use Rattle.asp_clauses.specs.Literal.{negated}
 use Rattle.asp_clauses.specs.Trail.{no_step, step_at, literal_at, is_decision, decisions, level_at, IsPlaced, IsUnassigned, IsLawful, back_to}
-use Rattle.asp_search.proofs.Truth.{negated-half}
+use Rattle.asp_clauses.proofs.LiteralLemmas.{negated-half}
+use Rattle.asp_clauses.proofs.StepsLemmas.{step_at-take, decisions-take-mono}
 
 -- ---- the beginning of a trail
-
-pub step_at-take : (steps : List Step) (k p : ℕ) → p < k → step_at (take k steps) p ≡ step_at steps p
-step_at-take steps k p h = get_or-take k steps p no_step h
 
 -- what is placed in a beginning is placed at a place before its end
 pub placed_before : (steps : List Step) (k literal : ℕ) → IsPlaced (take k steps) literal → (p : ℕ) × (p < k) × (p < length steps) × (literal_at steps p ≡ literal)
@@ -20,18 +18,10 @@ placed_before steps k literal placed =
     let below : placed.0 < k = omega (arith, placed.1, length-take k steps) in
     (placed.0, below, omega (arith, placed.1, length-take k steps), ap (λ (s : Step). s.literal) (sym (step_at-take steps k placed.0 below)) ∙ placed.2)
 
-pub placed_in_take : (steps : List Step) (k p : ℕ) → p < k → p < length steps → IsPlaced (take k steps) (literal_at steps p)
-placed_in_take steps k p h within =
-    (p, omega (arith, length-take k steps), ap (λ (s : Step). s.literal) (step_at-take steps k p h))
-
 -- ---- levels
 
-pub decisions-take-le : (steps : List Step) (j k : ℕ) → j ≤ k → decisions (take j steps) ≤ decisions (take k steps)
-decisions-take-le steps j k h =
-    rw (← take-take j k steps h) (sum_by-take-le (λ (s : Step). cond (is_decision s) 1 0) (take k steps) j)
-
 pub level_at-le : (steps : List Step) (p q : ℕ) → p ≤ q → level_at steps p ≤ level_at steps q
-level_at-le steps p q h = decisions-take-le steps (p + 1) (q + 1) (omega arith)
+level_at-le steps p q h = decisions-take-mono steps (p + 1) (q + 1) (omega arith)
 
 pub level_at-le-decisions : (steps : List Step) (p : ℕ) → level_at steps p ≤ decisions steps
 level_at-le-decisions steps p = sum_by-take-le (λ (s : Step). cond (is_decision s) 1 0) steps (p + 1)
@@ -39,13 +29,10 @@ level_at-le-decisions steps p = sum_by-take-le (λ (s : Step). cond (is_decision
 pub level_at-decision : (steps : List Step) (p : ℕ) → p < length steps → is_decision (step_at steps p) ≡ true → level_at steps p ≡ decisions (take p steps) + 1
 level_at-decision steps p within is = count_by_more_yes is_decision steps p no_step within is
 
-pub level_at-implied : (steps : List Step) (p : ℕ) → p < length steps → is_decision (step_at steps p) ≡ false → level_at steps p ≡ decisions (take p steps)
-level_at-implied steps p within is = count_by_more_no is_decision steps p no_step within is
-
 -- what stands before a decision is of a lower level
 pub level_at-before-decision : (steps : List Step) (p q : ℕ) → p < q → q < length steps → is_decision (step_at steps q) ≡ true → level_at steps p < level_at steps q
 level_at-before-decision steps p q h within is =
-    omega (arith, level_at-decision steps q within is, decisions-take-le steps (p + 1) q (omega arith))
+    omega (arith, level_at-decision steps q within is, decisions-take-mono steps (p + 1) q (omega arith))
 
 pub not_decision-at-zero : (steps : List Step) (p : ℕ) → p < length steps → level_at steps p ≡ 0 → is_decision (step_at steps p) ≡ false
 not_decision-at-zero steps p within zero_level =

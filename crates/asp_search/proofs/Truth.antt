@@ -3,18 +3,8 @@ use Rattle.std.proofs.Common.{◌≡◌, ◌≢◌, ℕ, suc, zero, ◌+◌, ◌
 use Rattle.std.specs.List.{Contains}
 use Rattle.std.proofs.lemmas.Bool.{cases_Bool, cases_eq, cond-true, cond-false, eq-eqb, ne_eqb, both_ways, not_from_false, not-true}
 use Rattle.asp_clauses.specs.Literal.{negated}
+use Rattle.asp_clauses.proofs.LiteralLemmas.{negated_even, negated_odd, is_even, negated-half, negated-lt}
 use Rattle.asp_search.specs.Meaning.{truth, Satisfies}
-
-pub negated-even : (l : ℕ) → l % 2 ≡ 0 → negated l ≡ l + 1
-unfolding negated
-negated-even l h = cond-true (eqb (l % 2) 0) (l + 1) (l - 1) (eq-eqb (l % 2) 0 h)
-
-pub negated-odd : (l : ℕ) → l % 2 ≡ 1 → negated l ≡ l - 1
-unfolding negated
-negated-odd l h = cond-false (eqb (l % 2) 0) (l + 1) (l - 1) (ne_eqb (l % 2) 0 (λ (e : l % 2 ≡ 0). absurd (omega arith)))
-
-pub parity : (l : ℕ) → (l % 2 ≡ 0) ⊎ (l % 2 ≡ 1)
-parity l = ⊎_elim (λ (h : l % 2 ≡ 0). inl h) (λ (h : l % 2 ≡ 0 → ⊥). inr (omega arith)) (cases_eq (l % 2) 0)
 
 pub truth-odd : (v : ℕ → Bool) (l : ℕ) → l % 2 ≡ 1 → truth v l ≡ v (l / 2)
 truth-odd v l h = cond-true (eqb (l % 2) 1) (v (l / 2)) (not (v (l / 2))) (eq-eqb (l % 2) 1 h)
@@ -32,41 +22,12 @@ truth-negated v l =
     (λ (h : l % 2 ≡ 0).
     let half : (l + 1) / 2 ≡ l / 2 = omega arith in
     let odd : (l + 1) % 2 ≡ 1 = omega arith in
-    rw (negated-even l h, truth-odd v (l + 1) odd, half, truth-even v l h) (not-not (v (l / 2))))
+    rw (negated_even l h, truth-odd v (l + 1) odd, half, truth-even v l h) (not-not (v (l / 2))))
     (λ (h : l % 2 ≡ 1).
     let half : (l - 1) / 2 ≡ l / 2 = omega arith in
     let even : (l - 1) % 2 ≡ 0 = omega arith in
-    rw (negated-odd l h, truth-even v (l - 1) even, half, truth-odd v l h) refl)
-    (parity l)
-
-pub negated-negated : (l : ℕ) → negated (negated l) ≡ l
-negated-negated l =
-    ⊎_elim
-    (λ (h : l % 2 ≡ 0). rw (negated-even l h, negated-odd (l + 1) (omega arith)) (omega arith))
-    (λ (h : l % 2 ≡ 1). rw (negated-odd l h, negated-even (l - 1) (omega arith)) (omega arith))
-    (parity l)
-
-pub negated-half : (l : ℕ) → negated l / 2 ≡ l / 2
-negated-half l =
-    ⊎_elim (λ (h : l % 2 ≡ 0). rw (negated-even l h) (omega arith)) (λ (h : l % 2 ≡ 1). rw (negated-odd l h) (omega arith)) (parity l)
-
-pub negated-differs : (l : ℕ) → negated l ≢ l
-negated-differs l =
-    ⊎_elim
-    (λ (h : l % 2 ≡ 0). λ (e : negated l ≡ l). absurd (omega (arith, negated-even l h)))
-    (λ (h : l % 2 ≡ 1). λ (e : negated l ≡ l). absurd (omega (arith, negated-odd l h)))
-    (parity l)
-
--- two literals of one atom are the same or opposite
-pub same_or_negated : (l k : ℕ) → l / 2 ≡ k / 2 → (k ≡ l) ⊎ (k ≡ negated l)
-same_or_negated l k e =
-    ⊎_elim
-    (λ (h : k ≡ l). inl h)
-    (λ (n : k ≡ l → ⊥). inr (⊎_elim (λ (h : l % 2 ≡ 0). rw (negated-even l h) (omega arith)) (λ (h : l % 2 ≡ 1). rw (negated-odd l h) (omega arith)) (parity l)))
-    (cases_eq k l)
-
-pub negated-lt : (n l : ℕ) → l < 2 * n → negated l < 2 * n
-negated-lt n l h = omega (arith, negated-half l)
+    rw (negated_odd l (omega arith), truth-even v (l - 1) even, half, truth-odd v l h) refl)
+    (is_even l)
 
 pub true-negated : (v : ℕ → Bool) (l : ℕ) → truth v (negated l) ≡ true → truth v l ≡ true → ⊥
 true-negated v l n p = both_ways (truth v l) (not-true (truth v l) (sym (truth-negated v l) ∙ n)) p

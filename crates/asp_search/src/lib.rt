@@ -44,6 +44,3 @@ pub use laws::kept_clauses_stand_for_the_added;
 pub use outcome::Outcome;
 pub use search::Search;
 pub use stage::Stage;
-
-#[cfg(test)]
-mod tests;

@@ -3,7 +3,7 @@ use Rattle.std.proofs.lemmas.Bool.{and_from, and_parts, not-true}
 use Rattle.std.proofs.lemmas.List.Folds.{list_all_more}
 use Rattle.asp_bits.specs.Places.{true_places}
 use Rattle.asp_defs.specs.Interpretations.{holds}
-use Rattle.asp_minimal.proofs.Places.{get_or-member}
+use Rattle.asp_reduct.proofs.Truths.{get_or-member}
 use Rattle.asp_minimal.proofs.atoms.first_outside.Goals as goal
 
 pub returns-then-is_outside : goal.returns-then-is_outside

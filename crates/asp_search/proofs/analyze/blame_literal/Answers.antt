@@ -3,13 +3,13 @@ use Rattle.std.specs.List.{Contains}
 use Rattle.std.proofs.lemmas.Bool.{false≢true}
 use Rattle.asp_clauses.specs.Literal.{negated}
 use Rattle.asp_clauses.specs.Trail.{IsPlaced, level_at}
-use Rattle.asp_search.proofs.Truth.{negated-lt}
+use Rattle.asp_clauses.proofs.LiteralLemmas.{negated-lt}
 use Rattle.asp_search.proofs.Blaming.{Blames-one, Blames-lower}
 use Rattle.asp_search.proofs.analyze.blame_literal.Goals as goal
 use Rattle.asp_search.proofs.analyze.blame_literal.Goals.{After-bump}
 
 pub is_true-requires : goal.is_true-requires
-is_true-requires c = rw c.opposite-cause.ensures (negated-lt c.args.trail.now.atoms c.args.literal c.requires.code)
+is_true-requires c = rw c.opposite-cause.ensures (negated-lt c.args.literal c.args.trail.now.atoms c.requires.code)
 
 placed : (c : After-bump) → IsPlaced c.args.trail.now.steps (negated c.args.literal)
 placed c = subst (λ (l : ℕ). IsPlaced c.args.trail.now.steps l) c.opposite-cause.ensures (c.is_true.ensures.0 c.if-not-is_true.false)

@@ -5,7 +5,7 @@ use Rattle.std.proofs.lemmas.List.Elements.{Contains-push_cases}
 use Rattle.asp_clauses.specs.Literal.{negated}
 use Rattle.asp_clauses.specs.Trail.{clause_at, literal_at, step_at}
 use Rattle.asp_search.specs.Analysis.{IsFixed}
-use Rattle.asp_search.proofs.MarkTables.{Contains-at}
+use Rattle.asp_clauses.proofs.ReorderLemmas.{Contains-at}
 use Rattle.asp_search.proofs.Trails.{placed_before}
 use Rattle.asp_search.proofs.analyze.is_redundant.Goals as goal
 use Rattle.asp_search.proofs.analyze.is_redundant.Goals.{In-loop-other}

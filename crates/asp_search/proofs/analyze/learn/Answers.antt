@@ -4,7 +4,7 @@ use Rattle.asp_clauses.specs.Literal.{negated}
 use Rattle.asp_clauses.specs.Trail.{literal_at}
 use Rattle.asp_search.specs.Marks.{AreDistinct}
 use Rattle.asp_search.specs.Analysis.{IsLearning, Takes}
-use Rattle.asp_search.proofs.MarkTables.{Contains-at}
+use Rattle.asp_clauses.proofs.ReorderLemmas.{Contains-at}
 use Rattle.asp_search.proofs.Learning.{IsLearning-start, IsLearning-more, IsLearned-from}
 use Rattle.asp_search.proofs.analyze.learn.Goals as goal
 

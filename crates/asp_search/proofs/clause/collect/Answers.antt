@@ -3,7 +3,7 @@ use Rattle.std.specs.List.{Contains}
 use Rattle.std.proofs.lemmas.List.{take_more}
 use Rattle.std.proofs.lemmas.Bool.{false≢true}
 use Rattle.asp_clauses.specs.Literal.{negated}
-use Rattle.asp_search.proofs.MarkTables.{Contains-at}
+use Rattle.asp_clauses.proofs.ReorderLemmas.{Contains-at}
 use Rattle.asp_search.proofs.Adding.{Contains-take, Collects-had, Collects-new}
 use Rattle.asp_search.proofs.clause.collect.Goals as goal
 use Rattle.asp_search.proofs.clause.collect.Goals.{then-not-contains+in_ok-insert, else-not-contains}

@@ -2,7 +2,7 @@ use Rattle.std.proofs.Common.{◌≡◌, ◌*◌, ℕ, List, ◌∙◌, sym, sub
 use Rattle.asp_clauses.specs.Book.{IsClause}
 use Rattle.asp_search.specs.Marks.{AreCodes}
 use Rattle.asp_search.specs.Clause.{Collects}
-use Rattle.asp_search.proofs.Truth.{negated-lt}
+use Rattle.asp_clauses.proofs.LiteralLemmas.{negated-lt}
 use Rattle.asp_search.proofs.Stepping.{AreInRange-push}
 use Rattle.asp_search.proofs.Adding.{IsClause-collected, AddsClause-collected, AddsClause-tautology}
 use Rattle.asp_search.proofs.clause.insert_clause.Goals as goal
@@ -10,7 +10,7 @@ use Rattle.asp_search.proofs.clause.insert_clause.Goals.{After-as_slice}
 
 pub collect-requires-clause-even : goal.collect-requires-clause-even
 collect-requires-clause-even c = λ code low.
-    omega (arith, c.requires.ready.fitted.codes, negated-lt c.args.solver.now.trail.atoms code (omega (arith, low, c.requires.ready.fitted.codes)))
+    omega (arith, c.requires.ready.fitted.codes, negated-lt code c.args.solver.now.trail.atoms (omega (arith, low, c.requires.ready.fitted.codes)))
 
 pub returns-then-branch-clause-added : goal.returns-then-branch-clause-added
 returns-then-branch-clause-added c =

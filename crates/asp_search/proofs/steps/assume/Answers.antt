@@ -2,8 +2,8 @@ use Rattle.std.proofs.Common.{◌<◌, ◌*◌, ℕ, None, ◌∙◌, sym, subst
 use Rattle.std.specs.List.{Contains}
 use Rattle.std.proofs.lemmas.Bool.{false≢true}
 use Rattle.asp_clauses.specs.Trail.{IsPlaced}
-use Rattle.asp_search.proofs.Truth.{negated-lt}
-use Rattle.asp_search.proofs.MarkTables.{Contains-at}
+use Rattle.asp_clauses.proofs.LiteralLemmas.{negated-lt}
+use Rattle.asp_clauses.proofs.ReorderLemmas.{Contains-at}
 use Rattle.asp_search.proofs.Stepping.{Stays-kept, Stays-decided, DecidesAssumed-decided}
 use Rattle.asp_search.proofs.Deciding.{IsCursor-decided, unassigned_from}
 use Rattle.asp_search.proofs.steps.assume.Goals as goal
@@ -12,7 +12,7 @@ pub is_true-requires : goal.is_true-requires
 is_true-requires c =
     let s = c.args.solver.now in
     let low : c.args.literal < 2 * s.trail.atoms = subst (λ (l : ℕ). l < 2 * s.trail.atoms) c.requires.next.is (c.requires.ready.assumptions.codes s.cursor c.requires.next.within) in
-    rw c.opposite.ensures (negated-lt s.trail.atoms c.args.literal low)
+    rw c.opposite.ensures (negated-lt c.args.literal s.trail.atoms low)
 
 pub decide-requires-clause-unassigned : goal.decide-requires-clause-unassigned
 decide-requires-clause-unassigned c =

@@ -1,7 +1,7 @@
 use Rattle.std.proofs.Common.{◌≡◌, ℕ, List, ◌∙◌, sym, subst}
 use Rattle.std.specs.List.{Contains}
 use Rattle.asp_search.specs.Cores.{IsCore}
-use Rattle.asp_search.proofs.MarkTables.{Contains-at}
+use Rattle.asp_clauses.proofs.ReorderLemmas.{Contains-at}
 use Rattle.asp_search.proofs.Tracing.{IsCore-from}
 use Rattle.asp_search.proofs.steps.refuse.Goals as goal
 

@@ -1,0 +1,18 @@
+use Rattle.std.proofs.Common.{sym, ◌∙◌}
+use Rattle.std.proofs.lemmas.Bool.{or_from}
+use Rattle.std.proofs.lemmas.List.Folds.{list_any_at, list_any_more}
+use Rattle.asp_bits.specs.Places.{true_places}
+use Rattle.asp_defs.specs.Interpretations.{holds}
+use Rattle.asp_reduct.proofs.Truths.{holds-read}
+use Rattle.asp_reduct.proofs.atoms.any_true.Goals as goal
+
+pub returns-then-get : goal.returns-then-get
+returns-then-get c =
+    sym (list_any_at (holds (true_places c.args.set.now)) c.args.atoms.now c.loop-atom.atom-index 0 c.loop-atom-test.true
+    (holds-read c.args.set.now _ c.get.result c.get.ensures ∙ c.if-get.true))
+
+pub loop-atom-preserved : goal.loop-atom-preserved
+loop-atom-preserved c =
+    list_any_more (holds (true_places c.args.set.now)) c.args.atoms.now c.loop-atom.atom-index 0 c.loop-atom-test.true
+    ∙ or_from _ _ c.loop-atom.invariant
+    (holds-read c.args.set.now _ c.get.result c.get.ensures ∙ c.if-get.false)
