@@ -59,12 +59,6 @@ truth_values-replicate count len =
 pub truth_values-fresh : (words : List ℕ) (count len : ℕ) → words ≡ replicate count 0 → truth_values words len ≡ replicate len false
 truth_values-fresh words count len is = ap (λ (l : List ℕ). truth_values l len) is ∙ truth_values-replicate count len
 
-pub IsPacked-replicate : (len : ℕ) → IsPacked (replicate ((len + 63) / 64) 0) len
-IsPacked-replicate len = record {
-  size = length-replicate {A = ℕ} ((len + 63) / 64) 0;
-  clear = λ place low high. packed_bit-replicate ((len + 63) / 64) place;
-}
-
 module _ (words : List ℕ) (at changed : ℕ) (value : Bool) (sets : SetsBit (get_or words (at / 64) 0) changed (at % 64) value) (within : at / 64 < length words) where
   packed_bit-set_same : eqb (packed_bit (set words (at / 64) changed) at) 1 ≡ value
   packed_bit-set_same = rw get_or-set_same sets.same

@@ -132,6 +132,3 @@ fn compare_words(mine: u64, theirs: u64) -> Ordering
         Ordering::Greater
     }
 }
-
-#[cfg(test)]
-mod tests;

@@ -12,9 +12,6 @@ pub record Written (before now : Option (List ℕ)) (bytes rest : List ℕ) : Ty
   pub parts : bytes ≡ front ++ rest
   pub appended : Appends before now front
 
-pub written_none : (before : Option (List ℕ)) (bytes : List ℕ) → Written before before bytes bytes
-written_none before bytes = record { front = []; parts = refl; appended = Appends-nil before }
-
 pub written_more : (before mid now : Option (List ℕ)) (bytes rest : List ℕ) (count : ℕ) → Written before mid bytes rest → Appends mid now (take count rest)
     → Written before now bytes (drop count rest)
 written_more before mid now bytes rest count so_far next = record {
@@ -22,10 +19,6 @@ written_more before mid now bytes rest count so_far next = record {
   parts = so_far.parts ∙ ap (λ l. so_far.front ++ l) (sym (take-append-drop count rest)) ∙ sym (append_assoc so_far.front (take count rest) (drop count rest));
   appended = Appends-trans before mid now so_far.front (take count rest) so_far.appended next;
 }
-
-pub written_all : (before now : Option (List ℕ)) (bytes rest : List ℕ) → Written before now bytes rest → rest ≡ [] → Appends before now bytes
-written_all before now bytes rest done none =
-    subst (Appends before now) (sym (done.parts ∙ ap (λ l. done.front ++ l) none ∙ append-nil done.front)) done.appended
 
 pub written_prefix : (before mid now : Option (List ℕ)) (bytes rest : List ℕ) → Written before mid bytes rest → Keeps mid now → AppendsPrefix before now bytes
 written_prefix before mid now bytes rest so_far kept =

@@ -21,6 +21,3 @@ pub use fault::{Failed, ReadFault};
 pub use memory::{MemSink, MemSource, SureSource};
 pub use sink::{Sink, write_all};
 pub use source::{Source, read_all};
-
-#[cfg(test)]
-mod tests;

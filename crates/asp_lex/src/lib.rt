@@ -10,6 +10,3 @@ mod tokens;
 
 pub use text::lex;
 pub use tokens::{Tok, Token};
-
-#[cfg(test)]
-mod tests;

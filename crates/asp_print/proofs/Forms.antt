@@ -1,5 +1,5 @@
 -- The texts of lists and rules that aren't empty.
-use Rattle.std.proofs.Common.{◌≡◌, ◌∙◌, ap, ◌↔◌, refl, IsTrue, Bool, true, false, List, [], ◌∷◌, ◌++◌, ℕ, codes}
+use Rattle.std.proofs.Common.{rules, ◌≡◌, ◌∙◌, ap, sym, subst, ◌↔◌, refl, IsTrue, Bool, true, false, List, [], ◌∷◌, ◌++◌, ℕ, codes}
 use Rattle.std.specs.List.{flat_map, join_by}
 use Rattle.asp_defs.specs.declared.syntax.Literal.{Literal}
 use Rattle.asp_defs.specs.declared.syntax.Head.{Head}
@@ -12,6 +12,13 @@ use Rattle.asp_defs.specs.Canonical.{applied_text, behind_sign, literals_text, s
 -- what a false test says
 pub untrue : {A : Type 0} (b : Bool) (x y : A) → IsTrue b ↔ (x ≡ y) → b ≡ false → x ≡ y → ⊥
 untrue b x y same fails is = let holds : IsTrue b = same.1 is in absurd (cc)
+
+-- what a true test says
+pub truly : {A : Type 0} (b : Bool) (x y : A) → IsTrue b ↔ (x ≡ y) → b ≡ true → x ≡ y
+truly b x y same holds = let h : IsTrue b = search rules in same.0 h
+
+pub applied_none : {A : Type 0} (text : A → List ℕ) (name : List ℕ) (xs : List A) → xs ≡ [] → name ≡ applied_text text name xs
+applied_none text name xs none = subst (λ ys. name ≡ applied_text text name ys) (sym none) refl
 
 pub applied_some : {A : Type 0} (text : A → List ℕ) (name : List ℕ) (xs : List A) → (xs ≡ [] → ⊥) → name ++ codes "(" ++ join_by text (codes ",") xs ++ codes ")" ≡ applied_text text name xs
 applied_some text name [] some = absurd (some refl)

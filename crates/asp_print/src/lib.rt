@@ -15,6 +15,3 @@ mod program;
 pub use laws::canonical_text_is_a_text;
 pub use line::{Line, print_line};
 pub use program::print_program;
-
-#[cfg(test)]
-mod tests;

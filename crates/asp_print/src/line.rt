@@ -256,15 +256,22 @@ fn print_counted<K: Sink>(sink: &mut K, buffer: &mut Buffer, which: Which) -> Re
     ensures { Writes (K.taken sink.old) (K.taken sink.new) buffer.old.items buffer.new.items (K.faults sink.old) (K.faults sink.new)
         result (which_text which) }
 {
+    print_bytes(sink, buffer, counted(which))
+}
+
+/// The name of what a limit counts.
+fn counted(which: Which) -> &'static [u8]
+    ensures { result.now ≡ which_text which }
+{
     match which {
-        Which::Bytes => print_bytes(sink, buffer, b"bytes"),
-        Which::Levels => print_bytes(sink, buffer, b"levels"),
-        Which::Arguments => print_bytes(sink, buffer, b"arguments"),
-        Which::Literals => print_bytes(sink, buffer, b"literals"),
-        Which::Variables => print_bytes(sink, buffer, b"variables"),
-        Which::Constants => print_bytes(sink, buffer, b"constants"),
-        Which::Atoms => print_bytes(sink, buffer, b"atoms"),
-        Which::Instances => print_bytes(sink, buffer, b"instances"),
+        Which::Bytes => b"bytes",
+        Which::Levels => b"levels",
+        Which::Arguments => b"arguments",
+        Which::Literals => b"literals",
+        Which::Variables => b"variables",
+        Which::Constants => b"constants",
+        Which::Atoms => b"atoms",
+        Which::Instances => b"instances",
     }
 }
 
@@ -291,9 +298,16 @@ fn print_spent<K: Sink>(sink: &mut K, buffer: &mut Buffer, kind: Kind) -> Result
     ensures { Writes (K.taken sink.old) (K.taken sink.new) buffer.old.items buffer.new.items (K.faults sink.old) (K.faults sink.new)
         result (kind_text kind) }
 {
+    print_bytes(sink, buffer, spent(kind))
+}
+
+/// The name of a budget.
+fn spent(kind: Kind) -> &'static [u8]
+    ensures { result.now ≡ kind_text kind }
+{
     match kind {
-        Kind::Search => print_bytes(sink, buffer, b"search"),
-        Kind::Minimal => print_bytes(sink, buffer, b"minimal"),
-        Kind::Store => print_bytes(sink, buffer, b"store"),
+        Kind::Search => b"search",
+        Kind::Minimal => b"minimal",
+        Kind::Store => b"store",
     }
 }

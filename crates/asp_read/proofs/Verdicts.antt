@@ -1,6 +1,6 @@
 -- What a result says of the bytes, if it is the machine's answer or want of memory.
-use Rattle.std.proofs.Common.{ℕ, ◌≡◌, ◌≢◌, ◌⊎◌, ◌∙◌, refl, sym, ap, inl, inr, List, map, Bool, true, false}
-use Rattle.std.specs.Prelude.{Result, Ok, Err, IfOk, IfErr}
+use Rattle.std.proofs.Common.{ℕ, ◌≡◌, ◌≢◌, ◌⊎◌, ◌∙◌, refl, sym, ap, inl, inr, List, [], ◌∷◌, length, map, Bool, true, false}
+use Rattle.std.specs.Prelude.{Result, Ok, Err, IfOk, IfErr, ◌==◌}
 use Rattle.asp_defs.specs.declared.syntax.Program.{Program}
 use Rattle.asp_defs.specs.declared.faults.TextFault.{TextFault}
 use Rattle.asp_defs.specs.declared.faults.TextFault.TheVariants.{NoMemory}
@@ -10,12 +10,17 @@ use Rattle.asp_defs.specs.TextRefusals.{IsRefused}
 use Rattle.asp_defs.proofs.TextRefutations.{clash}
 use Rattle.asp_lex.specs.declared.tokens.Token.{Token}
 use Rattle.asp_lex.specs.Slices.{placed}
-use Rattle.asp_grammar.specs.Machine.{answer, text_answer}
+use Rattle.asp_grammar.specs.Machine.{answer, answer_from, start, text_answer}
 use Rattle.asp_grammar.proofs.Answered.{answers_texts, answers_refusals}
 
 -- the answer of a text is that of its tokens
 pub answered : (bytes : List ℕ) (ts : List Placed) → tokens_of bytes ≡ Ok ts → text_answer bytes ≡ answer ts
 answered bytes ts e = ap (λ (o : Result (List Placed) TextFault). elim o [ Ok us ↦ answer us | Err fault ↦ Err fault ]) e
+
+-- the answer where there is a token
+pub some_tokens : (bytes : List ℕ) (ts : List Token) → (length ts == 0) ≡ false → answer (map (placed bytes) ts) ≡ answer_from start (map (placed bytes) ts)
+some_tokens bytes [] some = clash (sym some)
+some_tokens bytes (t ∷ ts) some = refl
 
 -- a result is an answer, unless memory ran out
 pub record Agrees (expected result : Result Program TextFault) : Type 0 where

@@ -10,6 +10,3 @@ mod refusals;
 mod text;
 
 pub use text::read;
-
-#[cfg(test)]
-mod tests;

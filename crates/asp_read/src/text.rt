@@ -1,5 +1,5 @@
 //! The whole text.
-ghost use Rattle.std.specs.Prelude.{◌≡◌, ◌≢◌, ◌+◌, ◌≤◌, ◌<◌, ◌⊎◌, length, map, slice_range, IfOk, IfErr, OnOk};
+ghost use Rattle.std.specs.Prelude.{◌≡◌, ◌≢◌, ◌+◌, ◌≤◌, ◌<◌, ◌⊎◌, [], ◌∷◌, ◌++◌, if◌then◌else◌, length, map, slice_range, IfOk, IfErr, OnOk};
 ghost use Rattle.asp_defs.specs.Grammar.{IsText};
 ghost use Rattle.asp_defs.specs.TextRefusals.{IsRefused};
 ghost use Rattle.asp_lex.specs.Slices.{token_of, placed, StandBetween};
@@ -94,26 +94,39 @@ fn build(alloc: Global, bytes: &[u8], tokens: &[Token]) -> Result<Builder, TextF
     Ok(builder)
 }
 
+/// The program of finished levels and of the part behind them: the constraint part, or the last level.
+fn closed(
+    alloc: Global,
+    mut levels: List<Part>,
+    last: Part,
+    in_constraint: bool,
+) -> Result<Program, NoMemory>
+    ensures { IfOk result (λ program. program ≡ (if in_constraint then record { levels = levels; cons = last.rules }
+        else record { levels = levels ++ last ∷ []; cons = [] })) }
+{
+    if in_constraint {
+        return Ok(Program {
+            levels,
+            cons: last.rules,
+        });
+    }
+    levels.push(last)?;
+    let cons = List::new(alloc);
+    Ok(Program { levels, cons })
+}
+
 /// The program of a tree whose statements are all whole.
 fn program_of(alloc: Global, tree: Tree) -> Result<Program, NoMemory>
     ensures { IfOk result (λ program. program ≡ machine.program_of tree) }
 {
     let Tree {
-        mut levels,
+        levels,
         quant,
         in_constraint,
         rules,
         ..
     } = tree;
-    if in_constraint {
-        return Ok(Program {
-            levels,
-            cons: rules,
-        });
-    }
-    levels.push(Part { quant, rules })?;
-    let cons = List::new(alloc);
-    Ok(Program { levels, cons })
+    closed(alloc, levels, Part { quant, rules }, in_constraint)
 }
 
 /// The program that was built, if its last statement is whole.

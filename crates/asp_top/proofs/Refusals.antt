@@ -16,7 +16,7 @@ use Rattle.asp_defs.specs.TextRefusals.{IsRefused}
 use Rattle.asp_defs.specs.Runs.{NoText, FailedCheck, LargeGame}
 use Rattle.asp_defs.proofs.TextRefutations.{clash}
 use Rattle.asp_top.specs.Replies.{refusal_of_text, refusal_of_check, refusal_of_size, IsRefusedSo}
-use Rattle.asp_top.specs.Solved.{IsTooLarge}
+use Rattle.asp_ground.specs.Faults.{IsGameRefusal}
 
 module _ (bytes : List ℕ) (short : 1048576 < length bytes → ⊥) where
   -- a fault of the reader
@@ -53,7 +53,7 @@ no_refusal p h = go (check_refusal p) h
 
 module _ (bytes : List ℕ) (p : Program) (text : IsCheckedText bytes p) where
   -- a fault for the size of the game
-  pub size_refused : (fault : SizeFault) → IsTooLarge p fault → IsRefusedSo bytes (refusal_of_size fault)
+  pub size_refused : (fault : SizeFault) → IsGameRefusal p fault → IsRefusedSo bytes (refusal_of_size fault)
   size_refused (size.TooLarge which count) h =
       let short : length bytes ≤ 1048576 = text.short in
       LargeGame p which count (λ past. let long : 1048576 < length bytes = past in omega arith) text.text

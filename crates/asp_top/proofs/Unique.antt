@@ -3,7 +3,7 @@ use Rattle.std.proofs.Common.{◌≡◌, ◌<◌, ◌≤◌, ℕ, Bool, true, fa
 use Rattle.std.specs.Prelude.{Option, Some, None, is_none, Ok, Err, IsTrue}
 use Rattle.asp_defs.specs.declared.syntax.Program.{Program}
 use Rattle.asp_defs.specs.Canonical.{program_text}
-use Rattle.asp_defs.specs.Checks.{CheckRefusal, check_refusal}
+use Rattle.asp_defs.specs.Checks.{check_refusal}
 use Rattle.asp_defs.specs.Grammar.{IsText}
 use Rattle.asp_defs.specs.Sizes.{IsAccepted, atom_total, game_too_large}
 use Rattle.asp_defs.specs.Games.{game_of}

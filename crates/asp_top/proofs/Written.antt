@@ -68,16 +68,6 @@ module _ (before now : Option (List ℕ)) (faults_before faults_now : ℕ) (endi
           | inr h ↦ inr (h.0, subst (λ n. AppendsPrefix before now (word_line n)) same h.1)
         ]
 
-    pub says_word : (bytes : List ℕ) → IsTrue (is_answered ending) → SaysAnswer words bytes ending before now
-    says_word bytes written = elim ends [
-      | inl h ↦ (
-        word_line found,
-        subst (λ status. IsAnswer words bytes status (word_line found)) (sym h.0) (found, refused, refl),
-        h.1,
-      )
-      | inr h ↦ clash (sym (ap is_answered h.0) ∙ written)
-    ]
-
     pub begins_word : (bytes : List ℕ) → ending ≡ Write → BeginsAnswer words bytes before now
     begins_word bytes failed = elim ends [
       | inl h ↦ clash (ap is_answered (sym failed ∙ h.0))

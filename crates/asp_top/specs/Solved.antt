@@ -1,24 +1,18 @@
 -- The size of a program's game, and what is said of its coherence. All definitions are transparent.
-use Rattle.std.specs.Prelude.{◌≡◌, ◌<◌, ◌≤◌, Some, None}
-use Rattle.asp_defs.specs.declared.faults.SizeFault.{SizeFault}
-use Rattle.asp_defs.specs.declared.faults.SizeFault.TheVariants.{TooLarge, NoMemory}
+use Rattle.std.specs.Prelude.{◌≡◌, ◌<◌, ◌≤◌, None}
 use Rattle.asp_defs.specs.declared.syntax.Program.{Program}
 use Rattle.asp_defs.specs.Games.{game_of}
 use Rattle.asp_defs.specs.Sizes.{atom_total, game_too_large}
 use Rattle.asp_defs.specs.Values.{is_coherent}
+use Rattle.asp_atoms.specs.Vocabularies.{vocabulary_of}
 use Rattle.asp_top.specs.declared.accept.Accepted.{Accepted}
 use Rattle.asp_top.specs.declared.answer.Answer.{Answer}
 use Rattle.asp_top.specs.declared.answer.Answer.TheVariants as answer
 use Rattle.asp_top.specs.Answers.{most_atoms_tried}
 
--- a program is refused for the size of its game; want of memory says nothing
-abbrev pub IsTooLarge : Program → SizeFault → Type 0
-IsTooLarge p (TooLarge which count) = game_too_large p ≡ Some (which, count)
-IsTooLarge p NoMemory = Unit {0}
-
--- a program stands beside the number of its atoms, and its game keeps the limits
+-- a program stands beside its vocabulary, and its game keeps the limits
 pub record IsMeasured (accepted : Accepted) : Type 0 where
-  pub atoms : accepted.atoms ≡ atom_total accepted.checked
+  pub known : accepted.vocabulary ≡ vocabulary_of accepted.checked
   pub small : game_too_large accepted.checked ≡ None
 
 -- what is said of a program's coherence is right

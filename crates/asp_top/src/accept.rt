@@ -1,26 +1,26 @@
 //! Whether a text is accepted.
-ghost use Rattle.std.specs.Prelude.{◌≡◌, IfOk, IfErr};
+ghost use Rattle.std.specs.Prelude.{IfOk, IfErr};
 ghost use Rattle.asp_defs.specs.Checks.{IsCheckedText};
 ghost use Rattle.asp_defs.specs.Sizes.{IsAccepted};
 ghost use Rattle.asp_top.specs.Replies.{IsRefusedSo};
-ghost use Rattle.asp_top.specs.Solved.{IsMeasured, IsTooLarge};
+ghost use Rattle.asp_top.specs.Solved.{IsMeasured};
 
 use crate::refusal::Refusal;
-use asp_atoms::atom_count;
+use asp_atoms::Vocabulary;
 use asp_check::{Checked, check};
-use asp_defs::{SizeFault, Which};
-use asp_ground::instance_count;
+use asp_defs::Which;
+use asp_ground::measure;
 use asp_print::Line;
 use asp_read::read;
 use std::alloc::Global;
 
-/// The program of an accepted text, and how many atoms it has.
+/// The program of an accepted text, with its constants and predicates.
 #[derive(Drop)]
 pub struct Accepted {
     /// The program.
     pub checked: Checked,
-    /// How many atoms its last base has.
-    pub atoms: u32,
+    /// Its vocabulary.
+    pub vocabulary: Vocabulary,
 }
 
 /// The program of the text, where it passes the checks. The bytes are given up.
@@ -40,25 +40,6 @@ fn checked(alloc: Global, bytes: Vec<u8>) -> Result<Checked, Refusal>
     Ok(check(alloc, program)?)
 }
 
-/// The program with the number of its atoms, where its game keeps the limits. Everything is counted, and no atom and no
-/// instance is made.
-///
-/// # Errors
-///
-/// `TooLarge` with the first of the constants, the atoms and the instances that pass their limit; `NoMemory` where
-/// memory runs out.
-fn measured(alloc: Global, checked: Checked) -> Result<Accepted, SizeFault>
-    ensures kept { IfOk result (λ accepted. accepted.checked ≡ checked) }
-    ensures measured { IfOk result IsMeasured }
-    ensures refused { IfErr result (IsTooLarge checked) }
-{
-    let atoms = atom_count(alloc, &checked)?;
-    match Which::Instances.past_limit(instance_count(&checked)) {
-        Some((which, count)) => Err(SizeFault::TooLarge(which, count)),
-        None => Ok(Accepted { checked, atoms }),
-    }
-}
-
 /// The program of the text, where it is accepted. The bytes are given up.
 ///
 /// # Errors
@@ -71,5 +52,9 @@ pub fn accept(alloc: Global, bytes: Vec<u8>) -> Result<Accepted, Refusal>
     ensures refused { IfErr result (IsRefusedSo bytes.items) }
 {
     let checked = checked(alloc, bytes)?;
-    Ok(measured(alloc, checked)?)
+    let vocabulary = measure(alloc, &checked)?;
+    Ok(Accepted {
+        checked,
+        vocabulary,
+    })
 }

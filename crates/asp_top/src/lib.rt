@@ -18,6 +18,3 @@ mod words;
 
 pub use run::run_single;
 pub use status::{Ended, Status};
-
-#[cfg(test)]
-mod tests;

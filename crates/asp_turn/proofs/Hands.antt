@@ -20,18 +20,6 @@ module _ {V W I : Type 0} where
   pub put_in : (me new : Me (Option V) (View W I)) (x : V) (taken : List I) → me.1 ≡ in_hand me.0.taken → me.0.taken ≡ Some taken → new ≡ (me.0, (0, Some x) ∷ rest me.1) → new ≡ (me.0, (0, Some x) ∷ [])
   put_in me new x taken hand holds e = e ∙ ap (λ (xs : List (ℕ × Option V)). (me.0, (0, Some x) ∷ xs)) (ap rest hand ∙ ap (λ (o : Option (List I)). rest (in_hand {V = V} o)) holds)
 
-  -- a holder has the slot in its hand, and nothing in the slot
-  pub holds_slot : (me : Me (Option V) (View W I)) (taken : List I) → me.1 ≡ in_hand me.0.taken → me.0.taken ≡ Some taken → (y : Option V) × (me.1 ≡ (0, y) ∷ rest me.1)
-  holds_slot me taken hand holds = headed me.1 [] None (hand ∙ ap (λ (o : Option (List I)). in_hand {V = V} o) holds)
-
   -- after a join the shorter list waits to be settled
   pub waits : (v other : View W I) (hand : List (ℕ × Option V)) (m : Me (Option V) (View W I)) → m ≡ (informed v (longer v.seen other.seen) (shorter v.seen other.seen), hand) → length m.0.told ≤ length m.0.seen
   waits v other hand m e = let P : Me (Option V) (View W I) → Type 0 = λ x. length x.0.told ≤ length x.0.seen in subst P (sym e) (shorter_is v.seen other.seen)
-
-  -- once it is settled, both lists begin what the seat has seen
-  pub both_known : (v other : View W I) (hand : List (ℕ × Option V)) (m m' : Me (Option V) (View W I)) → m ≡ (informed v (longer v.seen other.seen) (shorter v.seen other.seen), hand) → m' ≡ (informed m.0 m.0.seen [], m.1) → IsPrefix m.0.told m.0.seen
-      → IsPrefix v.seen m'.0.seen × IsPrefix other.seen m'.0.seen
-  both_known v other hand m m' e f p = let P : Me (Option V) (View W I) → Type 0 = λ x. IsPrefix x.0.told x.0.seen in
-      let Q : List I → Type 0 = λ xs. IsPrefix v.seen xs × IsPrefix other.seen xs in
-      let seen : m'.0.seen ≡ longer v.seen other.seen = ap (λ (x : Me (Option V) (View W I)). x.0.seen) f ∙ ap (λ (x : Me (Option V) (View W I)). x.0.seen) e in
-      subst Q (sym seen) (both_begin v.seen other.seen (subst P e p))

@@ -33,8 +33,6 @@ mod rule;
 mod seat;
 mod shares;
 mod takes;
-#[cfg(test)]
-mod tests;
 mod turn;
 mod view;
 

@@ -10,7 +10,7 @@ use Rattle.asp_top.proofs.solve.solve.Goals as goal
 
 pub coherent-requires-clause-valid : goal.coherent-requires-clause-valid
 coherent-requires-clause-valid c =
-    subst (λ (g : Game). IsValid g) (sym c.in-Ok.ensures.game)
+    subst (λ (g : Game). IsValid g) (sym c.in_ok-game.ensures)
     (text_game_is_valid c.args.accepted.checked
     (subst (λ (p : Program). IsTrue (is_checked p)) c.checked.view_is c.checked.invariant.0)
     (subst (λ (p : Program). IsCheckable p) c.checked.view_is c.checked.invariant.1)

@@ -3,7 +3,7 @@ use Rattle.std.specs.declared.option.Option.{Option}
 use Rattle.asp_defs.specs.declared.syntax.Term.{Term}
 use Rattle.asp_defs.specs.Canonical.{term_text, applied_text}
 use Rattle.asp_print.specs.Written.{Writes}
-use Rattle.asp_print.proofs.Forms.{untrue, applied_some}
+use Rattle.asp_print.proofs.Forms.{truly, untrue, applied_none, applied_some}
 use Rattle.asp_print.proofs.Writing.{behind, cut, failed, as_text}
 use Rattle.asp_print.proofs.program.AtomPrinted.print.Goals as goal
 
@@ -29,3 +29,7 @@ pub returns : goal.returns
 returns g c =
     as_text (applied_some term_text c.args.self.now.name c.args.self.now.args (untrue _ _ _ c.is_empty.ensures c.if-is_empty.false))
     (behind (behind (behind c.in_ok-print_name.ensures c.in_ok-print_bytes.ensures) c.in_ok-print_joined.ensures) c.print_bytes-2.ensures)
+
+pub returns-then-is_empty : goal.returns-then-is_empty
+returns-then-is_empty g c =
+    as_text (applied_none term_text c.args.self.now.name c.args.self.now.args (truly _ _ _ c.is_empty.ensures c.if-is_empty.true)) c.in_ok-print_name.ensures

@@ -1,8 +1,0 @@
-use Rattle.asp_turn.specs.Seats.{IsSeatOf, HoldsNothing}
-use Rattle.asp_turn.proofs.tests.add_all.Given as goal
-
-abbrev pub invariant-loop-number : goal.invariant-loop-number
-invariant-loop-number g l = record {
-  own : IsSeatOf l.turn l.seat;
-  free : HoldsNothing l.seat;
-}
