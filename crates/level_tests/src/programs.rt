@@ -1,0 +1,171 @@
+//! Random programs over four atoms, each set of atoms asked about with one set of free ones, against the definitions taken
+//! over bits.
+
+use crate::minimality::{Answer, ask, ask_nogood, atoms_of};
+use asp_defs::{GroundRule, NoMemory};
+use search_tests::numbers::draw;
+use std::alloc::Global;
+use std::test::Fail;
+
+/// A rule over the atoms below 8, each list of atoms as bits.
+#[derive(Debug, Clone, Copy, PartialEq, Eq)]
+struct Shape {
+    choice: bool,
+    head: u32,
+    pos: u32,
+    neg: u32,
+}
+
+fn rules_of(alloc: Global, shapes: &[Shape]) -> Result<Vec<GroundRule>, NoMemory> {
+    let mut rules = Vec::new(alloc);
+    for shape in shapes {
+        let rule = GroundRule {
+            choice: shape.choice,
+            head: atoms_of(alloc, shape.head)?,
+            pos: atoms_of(alloc, shape.pos)?,
+            neg: atoms_of(alloc, shape.neg)?,
+        };
+        rules.push(rule)?;
+    }
+    Ok(rules)
+}
+
+/// How many sets of atoms there are.
+const SETS: u32 = 16;
+
+/// Whether the body is true in a set.
+fn body_true(shape: Shape, set: u32) -> bool {
+    shape.pos & !set == 0 && shape.neg & set == 0
+}
+
+fn is_model(shapes: &[Shape], set: u32) -> bool {
+    shapes.iter().all(|shape| shape.choice || !body_true(*shape, set) || shape.head & set != 0)
+}
+
+/// Whether a smaller set satisfies what the reduct by `set` makes of the rule.
+fn keeps(shape: Shape, set: u32, smaller: u32) -> bool {
+    let dropped = shape.neg & set != 0 || (shape.choice && shape.head & set == 0);
+    dropped || shape.pos & !smaller != 0 || shape.head & smaller != 0
+}
+
+/// Whether a set is an answer set of the rules with a free choice on each free atom.
+fn is_answer_set(shapes: &[Shape], free: u32, set: u32) -> bool {
+    if !is_model(shapes, set) {
+        return false;
+    }
+    for smaller in 0..SETS {
+        let is_smaller = smaller & !set == 0 && smaller != set && (set & free) & !smaller == 0;
+        if is_smaller && shapes.iter().all(|shape| keeps(*shape, set, smaller)) {
+            return false;
+        }
+    }
+    true
+}
+
+/// Whether the rule supports `part` in a set from outside.
+fn supports(shape: Shape, set: u32, part: u32) -> bool {
+    shape.head & part != 0
+        && body_true(shape, set)
+        && shape.pos & part == 0
+        && shape.head & set & !part == 0
+}
+
+/// Whether `part` shows that the set is no answer set.
+fn refutes(shapes: &[Shape], free: u32, set: u32, part: u32) -> bool {
+    part != 0
+        && part & !set == 0
+        && part & free == 0
+        && shapes.iter().all(|shape| !supports(*shape, set, part))
+}
+
+/// Whether a literal of the clause is true in a set: bit `2 * atom + 1` stands for an atom, bit `2 * atom` for its negation.
+fn is_true(clause: u32, set: u32) -> bool {
+    for atom in 0..4u32 {
+        let literal = 2 * atom + u32::from((set >> atom) % 2 == 1);
+        if (clause >> literal) % 2 == 1 {
+            return true;
+        }
+    }
+    false
+}
+
+/// Whether the clause is false in the set and true in every answer set, whatever atoms outside `part` are free.
+fn is_nogood(shapes: &[Shape], set: u32, part: u32, clause: u32) -> bool {
+    if is_true(clause, set) {
+        return false;
+    }
+    for free in 0..SETS {
+        for other in 0..SETS {
+            if free & part == 0 && is_answer_set(shapes, free, other) && !is_true(clause, other) {
+                return false;
+            }
+        }
+    }
+    true
+}
+
+/// Whether the answers for a set are right.
+fn is_right(shapes: &[Shape], free: u32, set: u32, answer: Answer, clause: Option<u32>) -> bool {
+    match answer {
+        Answer::Yes => is_answer_set(shapes, free, set) && clause.is_none(),
+        Answer::NoModel => !is_model(shapes, set) && clause.is_none(),
+        Answer::Spent | Answer::Misnamed => false,
+        Answer::No(part) => match clause {
+            Some(clause) => {
+                !is_answer_set(shapes, free, set)
+                    && refutes(shapes, free, set, part)
+                    && is_nogood(shapes, set, part, clause)
+            }
+            None => false,
+        },
+    }
+}
+
+/// A rule with few atoms: one that is no choice has none to four head atoms, each positive body atom is there at one in four, and each
+/// negative one at one in eight.
+fn draw_shape(seed: &mut u32) -> Shape {
+    let choice = draw(seed) % 4 == 0;
+    let head = if choice {
+        1 << (draw(seed) % 4)
+    } else {
+        draw(seed) % SETS
+    };
+    let pos = draw(seed) & draw(seed) & 15;
+    let neg = draw(seed) & draw(seed) & draw(seed) & 15;
+    Shape {
+        choice,
+        head,
+        pos,
+        neg,
+    }
+}
+
+/// Whether the answers for each set of atoms are right.
+fn are_right(alloc: Global, shapes: &[Shape], free: u32) -> Result<bool, NoMemory> {
+    let rules = rules_of(alloc, shapes)?;
+    for set in 0..SETS {
+        let answer = ask(alloc, rules.as_slice(), free, set, 81)?;
+        let clause = ask_nogood(alloc, rules.as_slice(), free, set)?;
+        if !is_right(shapes, free, set, answer, clause) {
+            return Ok(false);
+        }
+    }
+    Ok(true)
+}
+
+#[test]
+fn agrees_on_random_programs(rt: HostRuntime) -> Result<(), Fail> {
+    let mut seed = 7;
+    for round in 0..400u32 {
+        let shapes = [
+            draw_shape(&mut seed),
+            draw_shape(&mut seed),
+            draw_shape(&mut seed),
+            draw_shape(&mut seed),
+            draw_shape(&mut seed),
+        ];
+        let free = draw(&mut seed) & draw(&mut seed) & 15;
+        assert!(rt; are_right(rt.alloc(), &shapes, free)?, "round {round}");
+    }
+    Ok(())
+}

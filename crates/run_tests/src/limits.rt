@@ -1,0 +1,106 @@
+//! Texts that reach a limit on programs or on bytes, and those that pass it by one.
+use crate::runs::{Row, check_refusal, check_run, repeated};
+use std::alloc::{AllocError, Global};
+use std::process::Abort;
+use std::test::Fail;
+
+/// The refusal of a text that passes a limit by one, and the canonical text of a program that reaches it: what stands
+/// first, what is repeated until the limit is reached, how often, and what stands last.
+type Limit = (&'static str, &'static str, &'static str, u32, &'static str);
+
+const LIMITS: [Limit; 7] = [
+    ("too large: levels 17", "%@exists\n", "%@forall\n", 15, ""),
+    ("too large: arguments 17", "%@exists\np(1", ",a", 15, ").\n"),
+    (
+        "too large: literals 65",
+        "%@exists\n:- a",
+        ", not a",
+        63,
+        ".\n",
+    ),
+    ("too large: literals 65", "%@exists\na", " | a", 63, ".\n"),
+    (
+        "too large: literals 65",
+        "%@exists\n{a : b, c",
+        ", 1 < 2",
+        60,
+        "} :- d.\n",
+    ),
+    (
+        "too large: variables 17",
+        "%@exists\n:- p(_)",
+        ", p(_)",
+        15,
+        ".\n",
+    ),
+    (
+        "too large: variables 17",
+        "%@exists\n:- p(X,Y), q(X)",
+        ", p(_)",
+        14,
+        ".\n",
+    ),
+];
+
+/// Runs `check` over texts that reach their limits.
+fn accept_rows(rt: &impl Abort, alloc: Global, rows: &[Limit]) -> Result<(), AllocError> {
+    for (refusal, first, part, count, last) in rows {
+        let text = repeated(alloc, first, part, *count, last)?;
+        let bytes = text.as_bytes();
+        check_run(rt, alloc, "check", bytes, 9, (bytes, 0), refusal)?;
+    }
+    Ok(())
+}
+
+#[test]
+fn accepts_up_to_each_limit(rt: HostRuntime) -> Result<(), Fail> {
+    Ok(accept_rows(&rt, rt.alloc(), &LIMITS)?)
+}
+
+/// Runs texts that pass their limits by one.
+fn refuse_rows(rt: &impl Abort, alloc: Global, rows: &[Limit]) -> Result<(), AllocError> {
+    for (refusal, first, part, count, last) in rows {
+        let text = repeated(alloc, first, part, count.saturating_add(1), last)?;
+        check_refusal(rt, alloc, text.as_bytes(), refusal, first)?;
+    }
+    Ok(())
+}
+
+#[test]
+fn refuses_past_each_limit(rt: HostRuntime) -> Result<(), Fail> {
+    Ok(refuse_rows(&rt, rt.alloc(), &LIMITS)?)
+}
+
+/// The words, how a text begins that blanks bring to the greatest length, its output and the exit status.
+const LONG: [Row; 3] = [
+    ("solve", "", "aspq: no level\n", 3),
+    ("solve", "%@exists", "COHERENT\n", 10),
+    ("check", "%@exists", "%@exists\n", 0),
+];
+
+/// The text, with blanks behind it up to so many bytes.
+fn lengthened(alloc: Global, text: &str, count: usize) -> Result<Vec<u8>, AllocError> {
+    let mut bytes = text.as_bytes().to_vec(alloc)?;
+    bytes.resize(count, b' ')?;
+    Ok(bytes)
+}
+
+/// The refusal of a text with one byte too many.
+const TOO_LONG: (&[u8], u8) = (b"aspq: too large: bytes 1048577\n", 3);
+
+/// Runs each text at the greatest length, and with one blank more.
+fn run_long_rows(rt: &impl Abort, alloc: Global, rows: &[Row]) -> Result<(), AllocError> {
+    for (words, text, output, code) in rows {
+        let long = lengthened(alloc, text, 1_048_576)?;
+        let expected = (output.as_bytes(), *code);
+        check_run(rt, alloc, words, long.as_slice(), 60_000, expected, text)?;
+        let longer = lengthened(alloc, text, 1_048_577)?;
+        check_run(rt, alloc, words, longer.as_slice(), 60_000, TOO_LONG, text)?;
+    }
+    Ok(())
+}
+
+#[test]
+fn refuses_a_text_that_is_too_long(rt: HostRuntime) -> Result<(), Fail> {
+    Ok(run_long_rows(&rt, rt.alloc(), &LONG)?)
+}

@@ -1,0 +1,160 @@
+//! Answers of searches compared with all assignments.
+
+ghost use Rattle.std.specs.Prelude.{◌<◌};
+
+use crate::numbers::draw;
+use crate::probe::{Answer, ask, ask_in_order, bit, probe_of};
+use asp_search::NoMemory;
+use std::alloc::Global;
+use std::test::Fail;
+
+/// Whether the answer is right for clauses and assumptions over the first eight atoms, all of them bits of literals.
+pub fn is_right(answer: Answer, clauses: &[u32], assumed: u32) -> bool {
+    match answer {
+        Answer::Found(truths) => assumed & truths == assumed && satisfies(truths, clauses),
+        Answer::Core(core, _) => core & assumed == core && is_refuted(core, clauses),
+        Answer::Spent | Answer::NoMemory => false,
+    }
+}
+
+/// Whether each clause has one of the literals.
+fn satisfies(truths: u32, clauses: &[u32]) -> bool {
+    clauses.iter().all(|clause| *clause & truths != 0)
+}
+
+/// Whether no assignment with the core's literals satisfies the clauses.
+fn is_refuted(core: u32, clauses: &[u32]) -> bool {
+    for atoms in 0..256u32 {
+        let truths = truths_of(atoms);
+        if core & truths == core && satisfies(truths, clauses) {
+            return false;
+        }
+    }
+    true
+}
+
+/// The literals of the first eight atoms that are true where just the atoms of these bits are.
+fn truths_of(atoms: u32) -> u32 {
+    let mut truths = 0u32;
+    for atom in 0..8u32 {
+        truths |= bit(2 * atom + (atoms >> atom) % 2);
+    }
+    truths
+}
+
+/// What a search in order over three atoms is to answer: the first assignment, in the order of the atoms, with false before
+/// true.
+fn first_of(clauses: &[u32]) -> Answer {
+    for number in 0..8u32 {
+        // The first atom is the highest bit.
+        let atoms = number / 4 % 2 + number / 2 % 2 * 2 + number % 2 * 4;
+        let truths = truths_of(atoms) % 64;
+        if satisfies(truths, clauses) {
+            return Answer::Found(truths);
+        }
+    }
+    Answer::Core(0, 0)
+}
+
+/// Whether the four digits in base 28 don't descend.
+fn is_ascending(number: u32) -> bool {
+    let first = number % 28;
+    let second = number / 28 % 28;
+    let third = number / 784 % 28;
+    let fourth = number / 21_952 % 28;
+    first <= second && second <= third && third <= fourth
+}
+
+/// The digit of a number in base 3 that counts so many.
+fn digit(number: u32, unit: u32) -> u32
+    requires { 0 < unit }
+    ensures { result < 3 }
+{
+    number / unit % 3
+}
+
+/// A clause over three atoms: for each a digit in base 3, which is 0 for none, 1 for its negation, and 2 for itself.
+fn clause_of(number: u32) -> u32 {
+    digit(number, 1) + digit(number, 3) * 4 + digit(number, 9) * 16
+}
+
+/// A clause for each of the four digits in base 28 that is below 27.
+fn formula_of(alloc: Global, number: u32) -> Result<Vec<u32>, NoMemory> {
+    let mut clauses = Vec::new(alloc);
+    let mut rest = number;
+    for _place in 0..4u32 {
+        if rest % 28 < 27 {
+            clauses.push(clause_of(rest % 28))?;
+        }
+        rest /= 28;
+    }
+    Ok(clauses)
+}
+
+/// Whether a search, which places fewer than 3^3 literals, is right without order and in order.
+fn try_formula(alloc: Global, number: u32) -> Result<bool, Fail> {
+    let clauses = formula_of(alloc, number)?;
+    let mut probe = probe_of(alloc, 3, 27, clauses.as_slice())?;
+    let answer = ask(alloc, &mut probe, 0)?;
+    let first = ask_in_order(alloc, &mut probe)?;
+    Ok(is_right(answer, clauses.as_slice(), 0) && first == first_of(clauses.as_slice()))
+}
+
+// All formulas of up to three atoms and four clauses: a clause is one of the 27 sets of literals without both of an
+// atom, the empty set among them, and a formula is up to four clauses, whatever their order; a clause may stand in it
+// twice.
+#[test]
+fn agrees_on_all_small_formulas(rt: HostRuntime) -> Result<(), Fail> {
+    let mut tried = 0u32;
+    for number in 0..614_656u32 {
+        if is_ascending(number) {
+            let right = try_formula(rt.alloc(), number)?;
+            assert!(rt; right, "formula {number}");
+            tried = tried.saturating_add(1);
+        }
+    }
+    assert_eq!(rt; tried, 31_465);
+    Ok(())
+}
+
+/// Clauses of three literals of the first eight atoms.
+fn draw_formula(alloc: Global, seed: &mut u32, clauses: u32) -> Result<Vec<u32>, NoMemory> {
+    let mut formula = Vec::new(alloc);
+    for _clause in 0..clauses {
+        let clause = bit(draw(seed) % 16) | bit(draw(seed) % 16) | bit(draw(seed) % 16);
+        formula.push(clause)?;
+    }
+    Ok(formula)
+}
+
+/// Literals of about half of the first eight atoms.
+fn draw_assumptions(seed: &mut u32) -> u32 {
+    let mut assumed = 0u32;
+    for atom in 0..8u32 {
+        let choice = draw(seed) % 4;
+        if choice < 2 {
+            assumed |= bit(2 * atom + choice);
+        }
+    }
+    assumed
+}
+
+/// Whether a search, which places fewer than 3^8 literals, is right under assumptions and then without.
+fn try_random(alloc: Global, seed: &mut u32, clauses: u32) -> Result<bool, Fail> {
+    let formula = draw_formula(alloc, seed, clauses)?;
+    let assumed = draw_assumptions(seed);
+    let mut probe = probe_of(alloc, 8, 6561, formula.as_slice())?;
+    let under = ask(alloc, &mut probe, assumed)?;
+    let free = ask(alloc, &mut probe, 0)?;
+    Ok(is_right(under, formula.as_slice(), assumed) && is_right(free, formula.as_slice(), 0))
+}
+
+#[test]
+fn agrees_on_random_formulas(rt: HostRuntime) -> Result<(), Fail> {
+    let mut seed = 1;
+    for round in 0..500u32 {
+        let right = try_random(rt.alloc(), &mut seed, round % 50)?;
+        assert!(rt; right, "round {round}");
+    }
+    Ok(())
+}
