@@ -48,12 +48,20 @@ def is_below(pid, root, found):
     return pid == root
 
 
+def command_of(pid):
+    """Returns where a process works and its words, or nothing where it has gone."""
+    try:
+        return f"{os.readlink(f'/proc/{pid}/cwd')} " + read(f"/proc/{pid}/cmdline").replace("\0", " ")
+    except OSError:
+        return ""
+
+
 def kind_of(words):
-    """Returns the crate for which a command of the prover runs, and what it does there."""
+    """Returns the crate for which a command of the prover runs, and what it does there. An edit is tried in a folder of its own."""
     crate = re.search(r"--crate-name (\w+)", words)
     if not crate:
         return "", "programs"
-    if "--incremental" in words:
+    if "/rt-edit-" in words.partition(" ")[0]:
         return crate.group(1), "edits"
     return crate.group(1), "tests" if " --test" in words else "proof"
 
@@ -68,7 +76,7 @@ def measure(folder):
         found = processes()
         for pid, (_, start, seconds) in found.items():
             if is_below(pid, gate.pid, found):
-                words[pid, start] = read(f"/proc/{pid}/cmdline").replace("\0", " ") or words.get((pid, start), "")
+                words[pid, start] = command_of(pid) or words.get((pid, start), "")
                 spent[pid, start] = seconds
         time.sleep(0.5)
     took = time.monotonic() - started
