@@ -14,7 +14,7 @@ use std::alloc::{AllocError, Global};
 use std::cmp::Ordering;
 use std::marker::Model;
 
-/// Want of memory.
+/// Memory was refused.
 pub type NoMemory = AllocError;
 
 /// How many places a word holds.

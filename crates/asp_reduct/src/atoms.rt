@@ -1,9 +1,8 @@
 //! True and false atoms of a list.
-ghost use Rattle.std.specs.Prelude.{◌≡◌, true, false, not, IsTrue, MatchOption, length};
-ghost use Rattle.std.specs.List.{list_any, list_all};
+ghost use Rattle.std.specs.Prelude.{◌≡◌, not, IsTrue, length};
+ghost use Rattle.std.specs.List.{list_any, list_all, find};
 ghost use Rattle.asp_bits.specs.Places.{true_places};
 ghost use Rattle.asp_defs.specs.Interpretations.{holds};
-ghost use Rattle.asp_defs.specs.Lists.{IsIn};
 ghost use Rattle.asp_reduct.specs.Bounds.{are_below};
 
 use asp_bits::Bits;
@@ -45,9 +44,7 @@ pub fn none_true(atoms: &[u32], set: &Bits) -> bool
 /// The first of the atoms that is false, or none where all are true.
 pub fn first_false(atoms: &[u32], set: &Bits) -> Option<u32>
     requires { IsTrue (are_below (length set.now) atoms.now) }
-    ensures { MatchOption result
-        (list_all (holds (true_places set.now)) atoms.now ≡ true)
-        (λ atom. IsIn atom atoms.now × (holds (true_places set.now) atom ≡ false)) }
+    ensures { result ≡ find (λ a. not (holds (true_places set.now) a)) atoms.now }
 {
     for atom in atoms {
         if !set.get(*atom) {
@@ -60,9 +57,7 @@ pub fn first_false(atoms: &[u32], set: &Bits) -> Option<u32>
 /// The first of the atoms that is true, or none where all are false.
 pub fn first_true(atoms: &[u32], set: &Bits) -> Option<u32>
     requires { IsTrue (are_below (length set.now) atoms.now) }
-    ensures { MatchOption result
-        (list_all (λ a. not (holds (true_places set.now) a)) atoms.now ≡ true)
-        (λ atom. IsIn atom atoms.now × (holds (true_places set.now) atom ≡ true)) }
+    ensures { result ≡ find (holds (true_places set.now)) atoms.now }
 {
     for atom in atoms {
         if set.get(*atom) {

@@ -13,6 +13,7 @@ ghost use Rattle.asp_defs.specs.Reduct.{stays as is_kept, positive_part as posit
 ghost use Rattle.asp_reduct.specs.Bounds.{is_rule_below};
 
 mod atoms;
+pub mod laws;
 
 use crate::atoms::{all_true, none_true};
 use asp_bits::Bits;
@@ -59,7 +60,7 @@ fn positive_part(alloc: Global, rule: &GroundRule) -> Result<GroundRule, NoMemor
 /// The reduct of the rules under an interpretation (Gelfond and Lifschitz 1991), in the order of the rules.
 ///
 /// A rule stays where no atom of its negative body is true, and loses its negative body. A choice stays where also its
-/// head atom is true, and becomes a plain rule. The only refusal is want of memory.
+/// head atom is true, and becomes a plain rule. `NoMemory`: memory was refused.
 pub fn reduct(alloc: Global, rules: &[GroundRule], set: &Bits) -> Result<List<GroundRule>, NoMemory>
     requires { IsTrue (list_all (is_rule_below (length set.now)) rules.now) }
     ensures { IfOk result (λ parts. parts ≡ reduct_of rules.now (true_places set.now)) }

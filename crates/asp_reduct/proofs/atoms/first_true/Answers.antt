@@ -1,18 +1,18 @@
-use Rattle.std.proofs.Common.{not, ap, ◌∙◌}
-use Rattle.std.proofs.lemmas.Bool.{and_from}
-use Rattle.std.proofs.lemmas.List.Folds.{list_all_more}
+use Rattle.std.proofs.Common.{◌∙◌}
 use Rattle.asp_bits.specs.Places.{true_places}
 use Rattle.asp_defs.specs.Interpretations.{holds}
-use Rattle.asp_reduct.proofs.Truths.{holds-read, get_or-member}
+use Rattle.asp_reduct.proofs.Truths.{holds-read}
+use Rattle.asp_reduct.proofs.Finding.{find_more, find_stop}
 use Rattle.asp_reduct.proofs.atoms.first_true.Goals as goal
 
 pub returns-then-get : goal.returns-then-get
-returns-then-get c = (
-  get_or-member c.args.atoms.now c.loop-atom.atom-index 0 c.loop-atom-test.true,
-  holds-read c.args.set.now _ c.get.result c.get.ensures ∙ c.if-get.true,
-)
+returns-then-get c =
+    find_stop (holds (true_places c.args.set.now)) c.args.atoms.now c.loop-atom.atom-index 0 c.loop-atom-test.true
+    c.loop-atom.invariant
+    (holds-read c.args.set.now _ c.get.result c.get.ensures ∙ c.if-get.true)
 
 pub loop-atom-preserved : goal.loop-atom-preserved
 loop-atom-preserved c =
-    list_all_more (λ a. not (holds (true_places c.args.set.now) a)) c.args.atoms.now c.loop-atom.atom-index 0 c.loop-atom-test.true
-    ∙ and_from _ _ c.loop-atom.invariant (ap not (holds-read c.args.set.now _ c.get.result c.get.ensures ∙ c.if-get.false))
+    find_more (holds (true_places c.args.set.now)) c.args.atoms.now c.loop-atom.atom-index 0 c.loop-atom-test.true
+    c.loop-atom.invariant
+    (holds-read c.args.set.now _ c.get.result c.get.ensures ∙ c.if-get.false)
