@@ -2,11 +2,13 @@
 use Rattle.std.proofs.Common.{ℕ, ◌≡◌, refl, Bool, true, false, not, ◌&&◌, ◌||◌, List}
 use Rattle.std.specs.List.{list_any, list_all, filter}
 use Rattle.asp_defs.specs.declared.ground.GroundRule.{GroundRule}
+use Rattle.asp_defs.specs.declared.ground.Bound.{Bound}
 use Rattle.asp_defs.specs.Lists.{IsIn}
 use Rattle.asp_defs.specs.Interpretations.{holds, subsets, same, proper_subsets}
 use Rattle.asp_defs.specs.Truth.{satisfies, is_model}
 use Rattle.asp_defs.specs.Reduct.{stays, positive_part, reduct}
-use Rattle.asp_defs.specs.AnswerSets.{is_answer_set}
+use Rattle.asp_defs.specs.Bounds.{meets_all}
+use Rattle.asp_defs.specs.AnswerSets.{is_answer_set, is_bounded_answer_set}
 use Rattle.asp_defs.specs.Laws.{AnswerSetsAreModels, AnswerSetsAreMinimal}
 use Rattle.asp_defs.proofs.Subsets.{neg_out-subset, true_is_not_false}
 use Rattle.asp_defs.proofs.Lists.{both, and_true, or_left, not_true, not_false, all_at, all_from, filter_at, filter_from, map_at, map_from}
@@ -96,12 +98,25 @@ pub answer_set-minimal : (G : List GroundRule) (I J : List ℕ) → is_answer_se
 answer_set-minimal G I J h i =
     not_true (is_model J (reduct G I)) (all_at (λ J. not (is_model J (reduct G I))) (proper_subsets I) J ((both (is_model I (reduct G I)) (list_all (λ J. not (is_model J (reduct G I))) (proper_subsets I)) h).1) i)
 
-pub answer_sets_are_models : AnswerSetsAreModels
-answer_sets_are_models G I h = model_from_reduct G I (answer_set-model G I h)
+-- an answer set of the rules satisfies them
+pub answer_set-satisfies : (G : List GroundRule) (I : List ℕ) → is_answer_set G I ≡ true → is_model I G ≡ true
+answer_set-satisfies G I h = model_from_reduct G I (answer_set-model G I h)
 
--- no answer set of a program without choices is a proper subset of another: it would be a model of the other's reduct
-pub answer_sets_are_minimal : AnswerSetsAreMinimal
-answer_sets_are_minimal G I J plain at_I at_J i =
+-- the parts of being an answer set with bounds
+pub bounded_at : (G : List GroundRule) (bounds : List Bound) (I : List ℕ) → is_bounded_answer_set G bounds I ≡ true → (is_answer_set G I ≡ true) × (meets_all I bounds ≡ true)
+bounded_at G bounds I h = both (is_answer_set G I) (meets_all I bounds) h
+
+pub bounded_from : (G : List GroundRule) (bounds : List Bound) (I : List ℕ) → is_answer_set G I ≡ true → meets_all I bounds ≡ true → is_bounded_answer_set G bounds I ≡ true
+bounded_from G bounds I answer met = and_true (is_answer_set G I) (meets_all I bounds) answer met
+
+pub answer_sets_are_models : AnswerSetsAreModels
+answer_sets_are_models G bounds I h =
+    let parts = bounded_at G bounds I h in
+    (answer_set-satisfies G I parts.0, parts.1)
+
+-- no answer set of rules without choices is a proper subset of another: it would be a model of the other's reduct
+answer_set-no_smaller : (G : List GroundRule) (I J : List ℕ) → list_all (λ r. not r.choice) G ≡ true → is_answer_set G I ≡ true → is_answer_set G J ≡ true → IsIn J (proper_subsets I) → ⊥
+answer_set-no_smaller G I J plain at_I at_J i =
     let inside : IsIn J (subsets I) = (filter_at (λ K. not (same K I)) (subsets I) J i).0 in
     let smaller : is_model J (reduct G I) ≡ true =
     model-reduct_from G I J (λ r member s.
@@ -110,5 +125,9 @@ answer_sets_are_minimal G I J plain at_I at_J i =
     (not_true r.choice (all_at (λ r. not r.choice) G r plain member))
     p
     (neg_out-subset I J r inside ((both (neg_out I r) (not r.choice || head_in I r) s).0))
-    (all_at (satisfies J) G r (answer_sets_are_models G J at_J) member)))
-    in absurd (true_is_not_false _ smaller (answer_set-minimal G I J at_I i))
+    (all_at (satisfies J) G r (answer_set-satisfies G J at_J) member)))
+    in true_is_not_false _ smaller (answer_set-minimal G I J at_I i)
+
+pub answer_sets_are_minimal : AnswerSetsAreMinimal
+answer_sets_are_minimal G bounds I J plain at_I at_J i =
+    answer_set-no_smaller G I J plain ((bounded_at G bounds I at_I).0) ((bounded_at G bounds J at_J).0) i

@@ -117,12 +117,12 @@ valid-base (B ∷ lists) zero h = (both (ascends B) (list_all ascends lists) h).
 valid-base (B ∷ lists) (suc i) h = valid-base lists i ((both (ascends B) (list_all ascends lists) h).1)
 
 -- the parts of a formed entry that count
-record Formed (g : Game) (e : Entry) : Type 0 where
-  first : 1 ≤ e.level
-  last : e.level ≤ level_count g + 1
-  cube : IsIn (map (λ l. l.atom) e.cube) (subsets (base g (e.level - 1)))
-  seed : IsIn e.seed (subsets (base g (e.level - 1)))
-  holds_seed : cube_holds e.cube e.seed ≡ true
+pub record Formed (g : Game) (e : Entry) : Type 0 where
+  pub first : 1 ≤ e.level
+  pub last : e.level ≤ level_count g + 1
+  pub cube : IsIn (map (λ l. l.atom) e.cube) (subsets (base g (e.level - 1)))
+  pub seed : IsIn e.seed (subsets (base g (e.level - 1)))
+  pub holds_seed : cube_holds e.cube e.seed ≡ true
 
 subset_of_base : (B I : List ℕ) → ascends B ≡ true → is_subset I B ≡ true → IsIn I (subsets B)
 subset_of_base B I up h =
@@ -165,7 +165,7 @@ of_level level H = filter (λ e. e.level == level) H
 abbrev seeds : ℕ → List Entry → List (List ℕ)
 seeds level H = map (λ e. e.seed) (of_level level H)
 
-follow-formed : (g : Game) (before more : List Entry) → IsValid g → may_follow g before more ≡ true → (e : Entry) → IsIn e more → Formed g e
+pub follow-formed : (g : Game) (before more : List Entry) → IsValid g → may_follow g before more ≡ true → (e : Entry) → IsIn e more → Formed g e
 follow-formed g before [] valid h e i = absurd i
 follow-formed g before (d ∷ more) valid h e (inl same) =
     subst (λ (x : Entry). Formed g x) (sym same) (formed g d valid ((follows_at g before d more h).formed))

@@ -8,14 +8,15 @@ use Rattle.asp_defs.specs.declared.ground.Game.{Game}
 use Rattle.asp_defs.specs.Lists.{IsIn}
 use Rattle.asp_defs.specs.Interpretations.{holds, subsets}
 use Rattle.asp_defs.specs.Truth.{body_true, satisfies, is_model}
-use Rattle.asp_defs.specs.AnswerSets.{is_answer_set, answer_sets}
+use Rattle.asp_defs.specs.Bounds.{meets_all}
+use Rattle.asp_defs.specs.AnswerSets.{is_answer_set, is_bounded_answer_set}
 use Rattle.asp_defs.specs.Unfounded.{supports, is_unfounded}
-use Rattle.asp_defs.specs.Games.{base, rules_of, rule_atoms, ascends, within, is_subset}
+use Rattle.asp_defs.specs.Games.{base, rules_of, bounds_of, rule_atoms, ascends, within, is_subset}
 use Rattle.asp_defs.specs.Values.{fact, denial, fix, moves}
 use Rattle.asp_defs.specs.Laws.{MovesAgree}
 use Rattle.asp_defs.proofs.Lists.{and_true, true_or_false, not_true, not_false, all_at, all_from, any_at, any_from, filter_at, filter_from, append_at, append_left, append_right, map_at, map_from}
 use Rattle.asp_defs.proofs.Subsets.{true_is_not_false, holds_at, holds_from, subset_at, subset-member, filter-subset, ascends-tail, ascends-member}
-use Rattle.asp_defs.proofs.AnswerSetLaws.{answer_sets_are_models}
+use Rattle.asp_defs.proofs.AnswerSetLaws.{answer_set-satisfies, bounded_at, bounded_from}
 use Rattle.asp_defs.proofs.FoundedLaws.{supports_at, supports_from, all_false, founded_from_minimal, answer_set_from_founded}
 use Rattle.asp_defs.proofs.CellLaws.{subset_from}
 
@@ -114,7 +115,7 @@ denial-says_from false h = refl
 -- an answer set with an outer move fixed agrees with that move on the base below
 pub answer-agrees : (G : List GroundRule) (B M N : List ℕ) → is_answer_set (G ++ fix B M) N ≡ true → (a : ℕ) → IsIn a B → holds N a ≡ holds M a
 answer-agrees G B M N answer a i =
-    let model : is_model N (G ++ fix B M) ≡ true = answer_sets_are_models (G ++ fix B M) N answer in
+    let model : is_model N (G ++ fix B M) ≡ true = answer_set-satisfies (G ++ fix B M) N answer in
     elim (true_or_false (holds M a)) [
       | inl inside ↦
           fact-says (holds N a) (all_at (satisfies N) (G ++ fix B M) (fact a) model (append_right G (fix B M) (fact a) (fact_from B M a (holds_at M a inside)))) ∙ sym inside
@@ -122,8 +123,18 @@ answer-agrees G B M N answer a i =
           denial-says (holds N a) (all_at (satisfies N) (G ++ fix B M) (denial a) model (append_right G (fix B M) (denial a) (denial_from B M a i outside))) ∙ sym outside
     ]
 
-pub move-answer : (g : Game) (i : ℕ) (M N : List ℕ) → IsIn N (moves g i M) → IsIn N (subsets (base g i)) × (is_answer_set (rules_of g i ++ fix (base g (i - 1)) M) N ≡ true)
-move-answer g i M N move = filter_at (is_answer_set (rules_of g i ++ fix (base g (i - 1)) M)) (subsets (base g i)) N move
+-- a move is a subset of the level's base that is an answer set of the rules with the outer move fixed, and meets the bounds
+pub move-answer : (g : Game) (i : ℕ) (M N : List ℕ) → IsIn N (moves g i M) → IsIn N (subsets (base g i)) × (is_answer_set (rules_of g i ++ fix (base g (i - 1)) M) N ≡ true) × (meets_all N (bounds_of g i) ≡ true)
+move-answer g i M N move =
+    let G = rules_of g i ++ fix (base g (i - 1)) M in
+    let found = filter_at (is_bounded_answer_set G (bounds_of g i)) (subsets (base g i)) N move in
+    let parts = bounded_at G (bounds_of g i) N found.1 in
+    (found.0, parts.0, parts.1)
+
+pub move_from : (g : Game) (i : ℕ) (M N : List ℕ) → IsIn N (subsets (base g i)) → is_answer_set (rules_of g i ++ fix (base g (i - 1)) M) N ≡ true → meets_all N (bounds_of g i) ≡ true → IsIn N (moves g i M)
+move_from g i M N inside answer met =
+    let G = rules_of g i ++ fix (base g (i - 1)) M in
+    filter_from (is_bounded_answer_set G (bounds_of g i)) (subsets (base g i)) N inside (bounded_from G (bounds_of g i) N answer met)
 
 pub moves_agree : MovesAgree
 moves_agree g i M N a move inside =
@@ -251,7 +262,7 @@ swap-model G B over M M' N s =
     elim (append_at G (fix B M') r i) [
       | inl plain ↦
           sym (satisfies-alike N (swapped B over M' N) r (swap-rule G B over M M' N s r plain))
-          ∙ all_at (satisfies N) (G ++ fix B M) r (answer_sets_are_models (G ++ fix B M) N s.answer) (append_left G (fix B M) r plain)
+          ∙ all_at (satisfies N) (G ++ fix B M) r (answer_set-satisfies (G ++ fix B M) N s.answer) (append_left G (fix B M) r plain)
       | inr fixing ↦ elim (fixes_at B M' r fixing) [
         | is_fact a inside same ↦
             rw same (fact-says_from (holds (swapped B over M' N) a) (swap-lower G B over M M' N s a (s.second_inside a inside) ∙ holds_from M' a inside))
@@ -310,9 +321,9 @@ swap-founded G B over M M' N s u U inside = elim (true_or_false (list_any (holds
 ]
 
 -- the answer set with the second outer move in place of the first is one after the second
-pub swap-answer : (G : List GroundRule) (B over M M' N : List ℕ) → Swap G B over M M' N → IsIn (swapped B over M' N) (answer_sets (G ++ fix B M') over)
+pub swap-inside : (B over M' N : List ℕ) → IsIn (swapped B over M' N) (subsets over)
+swap-inside B over M' N = filter-subset (keeps B M' N) over
+
+pub swap-answer : (G : List GroundRule) (B over M M' N : List ℕ) → Swap G B over M M' N → is_answer_set (G ++ fix B M') (swapped B over M' N) ≡ true
 swap-answer G B over M M' N s =
-    let new = swapped B over M' N in
-    let inside : IsIn new (subsets over) = filter-subset (keeps B M' N) over in
-    filter_from (is_answer_set (G ++ fix B M')) (subsets over) new inside
-    (answer_set_from_founded (G ++ fix B M') new (subset-ascends over new s.up inside) (swap-model G B over M M' N s) (swap-founded G B over M M' N s))
+    answer_set_from_founded (G ++ fix B M') (swapped B over M' N) (subset-ascends over (swapped B over M' N) s.up (swap-inside B over M' N)) (swap-model G B over M M' N s) (swap-founded G B over M M' N s)

@@ -14,7 +14,7 @@ use Rattle.asp_defs.specs.Games.{ascends}
 use Rattle.asp_defs.specs.Laws.{AnswerSetsAreFounded}
 use Rattle.asp_defs.proofs.Lists.{both, and_true, either, or_right, true_or_false, not_true, not_false, all_at, all_from, any_at, any_from, filter_at, filter_from}
 use Rattle.asp_defs.proofs.Subsets.{true_is_not_false, holds_at, holds_from, subset-member, subset-holds, filter-subset, without, same_from, subset_full, proper_from}
-use Rattle.asp_defs.proofs.AnswerSetLaws.{pos_in, neg_out, head_in, part-satisfies, part-satisfies_from, rule-satisfies, model-reduct_at, model-reduct_from, answer_set-model, answer_set-minimal, answer_sets_are_models}
+use Rattle.asp_defs.proofs.AnswerSetLaws.{pos_in, neg_out, head_in, part-satisfies, part-satisfies_from, rule-satisfies, model-reduct_at, model-reduct_from, answer_set-model, answer_set-minimal, answer_set-satisfies, bounded_at, bounded_from}
 
 -- a test that fails of some member fails of all of them together
 pub all_false : {A : Type 0} (p : A → Bool) (xs : List A) → list_all p xs ≡ false → (x : A) × IsIn x xs × (p x ≡ false)
@@ -198,7 +198,9 @@ answer_set_from_founded G I h model founded =
     ]))
 
 pub answer_sets_are_founded : AnswerSetsAreFounded
-answer_sets_are_founded G I h = (
-  λ answer. (answer_sets_are_models G I answer, λ a U i. founded_from_minimal G I a U answer i),
-  λ parts. answer_set_from_founded G I h parts.0 parts.1,
+answer_sets_are_founded G bounds I h = (
+  λ answer.
+      let parts = bounded_at G bounds I answer in
+      (answer_set-satisfies G I parts.0, parts.1, λ a U i. founded_from_minimal G I a U parts.0 i),
+  λ parts. bounded_from G bounds I (answer_set_from_founded G I h parts.0 parts.2) parts.1,
 )

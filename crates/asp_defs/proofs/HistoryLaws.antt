@@ -8,8 +8,8 @@ use Rattle.asp_defs.specs.declared.syntax.Quant.{Quant}
 use Rattle.asp_defs.specs.declared.syntax.Quant.TheVariants.{Exists, Forall}
 use Rattle.asp_defs.specs.Lists.{IsIn}
 use Rattle.asp_defs.specs.Interpretations.{subsets}
-use Rattle.asp_defs.specs.AnswerSets.{is_answer_set}
-use Rattle.asp_defs.specs.Games.{level_count, base, rules_of, is_subset}
+use Rattle.asp_defs.specs.AnswerSets.{is_bounded_answer_set}
+use Rattle.asp_defs.specs.Games.{level_count, base, rules_of, bounds_of, is_subset}
 use Rattle.asp_defs.specs.Values.{fix, moves, claims, value_from, value}
 use Rattle.asp_defs.specs.Entries.{Entry, cube_holds, held_moves, stands_from, is_entry, winning}
 use Rattle.asp_defs.specs.History.{agrees, is_held, is_held_with, is_justified_at, is_justified, is_sound, may_follow, is_legal}
@@ -123,7 +123,7 @@ justified-value g H (q ∷ qs) level verdict M first sound e h =
     within : (N : List ℕ) → IsIn N (moves g level M) → IsIn N (subsets (base g (level + 1 - 1)))
     within N i =
         subst (λ (l : ℕ). IsIn N (subsets (base g l))) (sym back)
-        ((filter_at (is_answer_set (rules_of g level ++ fix (base g (level - 1)) M)) (subsets (base g level)) N i).0)
+        ((filter_at (is_bounded_answer_set (rules_of g level ++ fix (base g (level - 1)) M) (bounds_of g level)) (subsets (base g level)) N i).0)
 
     settled : (N : List ℕ) → IsIn N (moves g level M) → is_held_with H (level + 1) verdict N ≡ true → value_from g qs (level + 1) N ≡ verdict
     settled N i held =

@@ -1,21 +1,24 @@
--- The value of an outer move depends alone on the atoms that stand in a rule of its level or of a later one.
-use Rattle.std.proofs.Common.{ℕ, suc, zero, ◌+◌, ◌-◌, ◌<◌, ◌≤◌, ◌≡◌, refl, sym, ◌∙◌, subst, inl, Bool, true, not, List, [], ◌∷◌, length, get_or, drop, arith}
+-- The value of an outer move depends alone on the atoms that stand in a rule or bound of its level or of a later one.
+use Rattle.std.proofs.Common.{ℕ, suc, zero, ◌+◌, ◌-◌, ◌<◌, ◌≤◌, ◌≡◌, refl, sym, ◌∙◌, subst, inl, inr, Bool, true, not, List, [], ◌∷◌, length, get_or, drop, arith}
 use Rattle.std.proofs.lemmas.List.{length-drop}
 use Rattle.std.specs.List.{list_any, list_all}
 use Rattle.asp_defs.specs.declared.ground.GroundRule.{GroundRule}
+use Rattle.asp_defs.specs.declared.ground.Bound.{Bound}
 use Rattle.asp_defs.specs.declared.ground.Game.{Game}
 use Rattle.asp_defs.specs.declared.syntax.Quant.{Quant}
 use Rattle.asp_defs.specs.declared.syntax.Quant.TheVariants.{Exists, Forall}
 use Rattle.asp_defs.specs.Lists.{IsIn, is_empty}
 use Rattle.asp_defs.specs.Interpretations.{holds, subsets}
-use Rattle.asp_defs.specs.Games.{level_count, base, rules_of, rule_atoms, ascends, within, nested, IsValid}
+use Rattle.asp_defs.specs.Bounds.{bound_atoms}
+use Rattle.asp_defs.specs.Games.{level_count, base, rules_of, bounds_of, rule_atoms, ascends, within, nested, IsValid}
 use Rattle.asp_defs.specs.Values.{moves, claims, value_from}
-use Rattle.asp_defs.specs.Entries.{stands_from}
-use Rattle.asp_defs.specs.Laws.{ValuesRestOnRules}
-use Rattle.asp_defs.proofs.Lists.{both, or_right, all_at, all_from, any_at, any_from}
+use Rattle.asp_defs.specs.Entries.{stands_in_rules, stands_in_bounds, stands_from}
+use Rattle.asp_defs.specs.Laws.{ValuesRestOnRulesAndBounds}
+use Rattle.asp_defs.proofs.Lists.{both, either, or_left, or_right, all_at, all_from, any_at, any_from}
 use Rattle.asp_defs.proofs.Subsets.{holds_at, holds_from, subset-member}
 use Rattle.asp_defs.proofs.CellLaws.{valid-base}
-use Rattle.asp_defs.proofs.Fixing.{same_test, move-answer, Swap, swapped, swap-same, swap-answer}
+use Rattle.asp_defs.proofs.Fixing.{same_test, move-answer, move_from, Swap, swapped, swap-inside, swap-same, swap-answer}
+use Rattle.asp_defs.proofs.BoundLaws.{swap-meets}
 
 -- ---- bases
 
@@ -41,20 +44,26 @@ base-next g i valid first last a member =
     let inside : within (base g (i - 1)) (base g (i - 1 + 1)) ≡ true = within_next g.bases.members (i - 1) valid.nested_bases low in
     subst (λ (k : ℕ). IsIn a (base g k)) back (holds_at (base g (i - 1 + 1)) a (all_at (holds (base g (i - 1 + 1))) (base g (i - 1)) a inside member))
 
--- ---- atoms that stand in rules
+-- ---- atoms that stand in rules and bounds
 
--- an atom of a rule of a level stands in a rule from that level on
-stands_in : (lists : List (List GroundRule)) (k : ℕ) (r : GroundRule) (a : ℕ) → IsIn r (get_or lists k []) → IsIn a (rule_atoms r) → list_any (λ rules. list_any (λ r. holds (rule_atoms r) a) rules) (drop k lists) ≡ true
-stands_in [] k r a member i = absurd member
-stands_in (rules ∷ lists) zero r a member i =
-    any_from (λ rules. list_any (λ r. holds (rule_atoms r) a) rules) (rules ∷ lists) rules (inl refl)
-    (any_from (λ r. holds (rule_atoms r) a) rules r member (holds_from (rule_atoms r) a i))
-stands_in (rules ∷ lists) (suc k) r a member i = stands_in lists k r a member i
+-- what one of the lists from a place on passes, where a member of the list at the place does
+any_behind : {A : Type 0} (p : A → Bool) (lists : List (List A)) (k : ℕ) (x : A) → IsIn x (get_or lists k []) → p x ≡ true → list_any (list_any p) (drop k lists) ≡ true
+any_behind p [] k x member passes = absurd member
+any_behind p (xs ∷ lists) zero x member passes = any_from (list_any p) (xs ∷ lists) xs (inl refl) (any_from p xs x member passes)
+any_behind p (xs ∷ lists) (suc k) x member passes = any_behind p lists k x member passes
 
+-- an atom of a rule or bound of a level stands in one from that level on
 pub stands-rule : (g : Game) (i : ℕ) (r : GroundRule) (a : ℕ) → IsIn r (rules_of g i) → IsIn a (rule_atoms r) → stands_from g i a ≡ true
-stands-rule g i r a member inside = stands_in g.rules (i - 1) r a member inside
+stands-rule g i r a member inside =
+    or_left (list_any (stands_in_rules a) (drop (i - 1) g.rules)) (list_any (stands_in_bounds a) (drop (i - 1) g.bounds))
+    (any_behind (λ r. holds (rule_atoms r) a) g.rules (i - 1) r member (holds_from (rule_atoms r) a inside))
 
--- an atom that stands in a rule from the next level on does so from this level on
+pub stands-bound : (g : Game) (i : ℕ) (b : Bound) (a : ℕ) → IsIn b (bounds_of g i) → IsIn a (bound_atoms b) → stands_from g i a ≡ true
+stands-bound g i b a member inside =
+    or_right (list_any (stands_in_rules a) (drop (i - 1) g.rules)) (list_any (stands_in_bounds a) (drop (i - 1) g.bounds))
+    (any_behind (λ b. holds (bound_atoms b) a) g.bounds (i - 1) b member (holds_from (bound_atoms b) a inside))
+
+-- an atom that stands in a rule or bound from the next level on does so from this level on
 any_drop : {A : Type 0} (p : A → Bool) (xs : List A) (k : ℕ) → list_any p (drop (k + 1) xs) ≡ true → list_any p (drop k xs) ≡ true
 any_drop p [] zero h = h
 any_drop p [] (suc k) h =
@@ -68,12 +77,20 @@ any_drop p (x ∷ xs) (suc k) h =
 pub stands-next : (g : Game) (i : ℕ) (a : ℕ) → 1 ≤ i → stands_from g (i + 1) a ≡ true → stands_from g i a ≡ true
 stands-next g i a first h =
     let count : i + 1 - 1 ≡ i - 1 + 1 = omega (arith, first) in
-    any_drop (λ rules. list_any (λ r. holds (rule_atoms r) a) rules) g.rules (i - 1)
-    (subst (λ (k : ℕ). list_any (λ rules. list_any (λ r. holds (rule_atoms r) a) rules) (drop k g.rules) ≡ true) count h)
+    let rules = list_any (stands_in_rules a) (drop (i - 1) g.rules) in
+    let bounds = list_any (stands_in_bounds a) (drop (i - 1) g.bounds) in
+    elim (either (list_any (stands_in_rules a) (drop (i + 1 - 1) g.rules)) (list_any (stands_in_bounds a) (drop (i + 1 - 1) g.bounds)) h) [
+      | inl one ↦
+          or_left rules bounds
+          (any_drop (stands_in_rules a) g.rules (i - 1) (subst (λ (k : ℕ). list_any (stands_in_rules a) (drop k g.rules) ≡ true) count one))
+      | inr one ↦
+          or_right rules bounds
+          (any_drop (stands_in_bounds a) g.bounds (i - 1) (subst (λ (k : ℕ). list_any (stands_in_bounds a) (drop k g.bounds) ≡ true) count one))
+    ]
 
 -- ---- values
 
--- two interpretations agree on the atoms that stand in a rule from a level on
+-- two interpretations agree on the atoms that stand in a rule or bound from a level on
 abbrev pub AgreeFrom : Game → ℕ → List ℕ → List ℕ → Type 0
 AgreeFrom g i I J = (a : ℕ) → stands_from g i a ≡ true → holds I a ≡ holds J a
 
@@ -98,7 +115,8 @@ partner g i M M' N valid first last inside inside' same move =
     } in
     record {
       move = swapped B (base g i) M' N;
-      is_move = swap-answer (rules_of g i) B (base g i) M M' N s;
+      is_move = move_from g i M' (swapped B (base g i) M' N) (swap-inside B (base g i) M' N) (swap-answer (rules_of g i) B (base g i) M M' N s)
+          (swap-meets (rules_of g i) B (base g i) M M' N (bounds_of g i) s (λ b member a at_bound lower. same a (stands-bound g i b a member at_bound)) parts.2);
       agrees = λ a stands. swap-same (rules_of g i) B (base g i) M M' N s a (λ lower. same a stands);
     }
 
@@ -127,7 +145,8 @@ agree-next g i I J first same a stands = same a (stands-next g i a first stands)
 agree-back : (g : Game) (i : ℕ) (I J : List ℕ) → AgreeFrom g i I J → AgreeFrom g i J I
 agree-back g i I J same a stands = sym (same a stands)
 
--- what is known of the level behind: outer moves that agree on the atoms that stand in rules from there on have one value
+-- what is known of the level behind: outer moves that agree on the atoms that stand in rules or bounds from there on have one
+-- value
 abbrev AlikeBehind : Game → List Quant → ℕ → Type 0
 AlikeBehind g qs i =
     (M M' : List ℕ) → IsIn M (subsets (base g (i - 1))) → IsIn M' (subsets (base g (i - 1))) → AgreeFrom g i M M' → value_from g qs i M ≡ value_from g qs i M'
@@ -164,8 +183,8 @@ value_from-alike g [] i valid first count = nothing_behind g i valid first (omeg
 value_from-alike g (q ∷ qs) i valid first count =
     one_more_level g q qs i valid first (omega (arith, count)) (value_from-alike g qs (i + 1) valid (omega arith) (omega (arith, count)))
 
--- outer moves that agree on the atoms that stand in a rule of their level or a later one have the same value
-pub values_rest_on_rules : ValuesRestOnRules
-values_rest_on_rules g i M M' valid first last inside inside' same =
+-- outer moves that agree on the atoms that stand in a rule or bound of their level or a later one have the same value
+pub values_rest_on_rules_and_bounds : ValuesRestOnRulesAndBounds
+values_rest_on_rules_and_bounds g i M M' valid first last inside inside' same =
     let long : length (drop (i - 1) g.quants) ≡ length g.quants - (i - 1) = length-drop (i - 1) g.quants in
     value_from-alike g (drop (i - 1) g.quants) i valid first (omega (arith, long, first, last)) M M' inside inside' same

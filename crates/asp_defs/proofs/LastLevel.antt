@@ -4,22 +4,24 @@ use Rattle.std.proofs.Common.{ℕ, ◌+◌, ◌-◌, ◌≤◌, ◌≡◌, refl,
 use Rattle.std.proofs.lemmas.List.{drop_all}
 use Rattle.std.specs.List.{list_any, list_all}
 use Rattle.asp_defs.specs.declared.ground.GroundRule.{GroundRule}
+use Rattle.asp_defs.specs.declared.ground.Bound.{Bound}
 use Rattle.asp_defs.specs.declared.ground.Game.{Game}
 use Rattle.asp_defs.specs.declared.syntax.Quant.{Quant}
 use Rattle.asp_defs.specs.Lists.{IsIn, is_empty}
 use Rattle.asp_defs.specs.Interpretations.{holds, subsets}
 use Rattle.asp_defs.specs.Truth.{satisfies, is_model}
+use Rattle.asp_defs.specs.Bounds.{meets_all}
 use Rattle.asp_defs.specs.AnswerSets.{is_answer_set}
 use Rattle.asp_defs.specs.Unfounded.{supports}
-use Rattle.asp_defs.specs.Games.{level_count, base, rules_of, ascends, is_constraint, IsValid}
+use Rattle.asp_defs.specs.Games.{level_count, base, rules_of, bounds_of, ascends, is_constraint, IsValid}
 use Rattle.asp_defs.specs.Values.{fact, fix, moves, value_from}
 use Rattle.asp_defs.specs.Laws.{ConstraintsDecide}
-use Rattle.asp_defs.proofs.Lists.{both, true_or_false, not_false, all_at, all_from, filter_from, append_at, append_left, append_right}
+use Rattle.asp_defs.proofs.Lists.{both, true_or_false, not_false, all_at, all_from, append_at, append_left, append_right}
 use Rattle.asp_defs.proofs.Subsets.{true_is_not_false, holds_at, holds_from, subset-member, subset_full}
-use Rattle.asp_defs.proofs.AnswerSetLaws.{answer_sets_are_models}
+use Rattle.asp_defs.proofs.AnswerSetLaws.{answer_set-satisfies}
 use Rattle.asp_defs.proofs.FoundedLaws.{supports_at, all_false, founded_from_minimal, answer_set_from_founded}
 use Rattle.asp_defs.proofs.CellLaws.{subset_from}
-use Rattle.asp_defs.proofs.Fixing.{same_test, subset-ascends, Fixes, is_fact, is_denial, fixes_at, fact_from, fact-says, fact-says_from, denial-says_from, fact-supports, supported, answer-agrees, move-answer}
+use Rattle.asp_defs.proofs.Fixing.{same_test, subset-ascends, Fixes, is_fact, is_denial, fixes_at, fact_from, fact-says, fact-says_from, denial-says_from, fact-supports, supported, answer-agrees, move-answer, move_from}
 use Rattle.asp_defs.proofs.Irrelevance.{base-up, base-next, some_move, some_move_from}
 
 -- a member alone is a subset
@@ -78,8 +80,9 @@ move-is_answer C B M up model =
     supported (C ++ fix B M) M (u ∷ U) (fact u) (append_right C (fix B M) (fact u) (fact_from B M u (subset-member M (u ∷ U) u i (inl refl))))
     (fact-supports M (u ∷ U) u (holds_from (u ∷ U) u (inl refl))))
 
-constraint-moves : (g : Game) (i : ℕ) (M : List ℕ) → IsValid g → 1 ≤ i → i ≤ level_count g + 1 → list_all is_constraint (rules_of g i) ≡ true → IsIn M (subsets (base g (i - 1))) → not (is_empty (moves g i M)) ≡ is_model M (rules_of g i)
-constraint-moves g i M valid first last plain inside =
+-- a level of constraints without bounds
+constraint-moves : (g : Game) (i : ℕ) (M : List ℕ) → IsValid g → 1 ≤ i → i ≤ level_count g + 1 → list_all is_constraint (rules_of g i) ≡ true → bounds_of g i ≡ [] → IsIn M (subsets (base g (i - 1))) → not (is_empty (moves g i M)) ≡ is_model M (rules_of g i)
+constraint-moves g i M valid first last plain unbounded inside =
     let C = rules_of g i in
     let B = base g (i - 1) in
     let upM : ascends M ≡ true = subset-ascends B M (base-up g (i - 1) valid) inside in
@@ -90,13 +93,13 @@ constraint-moves g i M valid first last plain inside =
     let parts = move-answer g i M N found.1 in
     let upN : ascends N ≡ true = subset-ascends (base g i) N (base-up g i valid) parts.0 in
     let same : M ≡ N = answer-is_move C B M N plain upM upN (λ a. subset-member B M a inside) parts.1 in
-    let model : is_model N (C ++ fix B M) ≡ true = answer_sets_are_models (C ++ fix B M) N parts.1 in
+    let model : is_model N (C ++ fix B M) ≡ true = answer_set-satisfies (C ++ fix B M) N parts.1 in
     all_from (satisfies M) C (λ r j.
     subst (λ (I : List ℕ). satisfies I r ≡ true) (sym same) (all_at (satisfies N) (C ++ fix B M) r model (append_left C (fix B M) r j))))
     (λ model.
     let upper : IsIn M (subsets (base g i)) =
     subset_from (base g i) M (base-up g i valid) upM (λ a j. base-next g i valid first last a (subset-member B M a inside j)) in
-    some_move_from (moves g i M) M (filter_from (is_answer_set (C ++ fix B M)) (subsets (base g i)) M upper (move-is_answer C B M upM model)))
+    some_move_from (moves g i M) M (move_from g i M M upper (move-is_answer C B M upM model) (subst (λ (bounds : List Bound). meets_all M bounds ≡ true) (sym unbounded) refl)))
 
 pub constraints_decide : ConstraintsDecide
 constraints_decide g M valid inside =
@@ -105,4 +108,4 @@ constraints_decide g M valid inside =
     let none : drop (n + 1 - 1) g.quants ≡ [] = ap (λ (k : ℕ). drop k g.quants) back ∙ drop_all n g.quants (omega arith) in
     let lower : IsIn M (subsets (base g (n + 1 - 1))) = subst (λ (k : ℕ). IsIn M (subsets (base g k))) (sym back) inside in
     ap (λ (quants : List Quant). value_from g quants (n + 1) M) none
-    ∙ constraint-moves g (n + 1) M valid (omega arith) (omega arith) valid.constraints lower
+    ∙ constraint-moves g (n + 1) M valid (omega arith) (omega arith) valid.constraints valid.unbounded lower

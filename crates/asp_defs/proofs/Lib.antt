@@ -5,9 +5,11 @@ pub mod FoundedLaws
 pub mod HistoryLaws
 pub mod CellLaws
 pub mod Fixing
+pub mod BoundLaws
 pub mod Irrelevance
 pub mod LastLevel
 pub mod ShownLaws
+pub mod EvidenceLaws
 pub mod SubsetLaws
 pub mod MachineLaws
 pub mod TextReadings
@@ -21,3 +23,5 @@ pub mod UnambiguousRules
 pub mod TextsApart
 pub mod SafetyLaws
 pub mod Pieces
+pub mod WordLaws
+pub mod Endings

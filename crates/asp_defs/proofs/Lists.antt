@@ -1,6 +1,6 @@
 -- Members of lists, tests of them, and truth values.
 use Rattle.std.proofs.Common.{◌≡◌, refl, sym, ap, subst, inl, inr, Bool, true, false, not, ◌&&◌, ◌||◌, cond, ◌⊎◌, List, [], ◌∷◌, ◌++◌, map}
-use Rattle.std.specs.List.{list_any, list_all, filter}
+use Rattle.std.specs.List.{list_any, list_all, filter, flat_map}
 use Rattle.asp_defs.specs.Lists.{IsIn}
 
 -- both parts of a true conjunction, and a conjunction of true parts
@@ -115,3 +115,10 @@ pub map_from : {A B : Type 0} (f : A → B) (xs : List A) (x : A) → IsIn x xs 
 map_from f [] x i = absurd i
 map_from f (y ∷ ys) x (inl e) = inl (ap f e)
 map_from f (y ∷ ys) x (inr i) = inr (map_from f ys x i)
+
+-- a member of a list of mapped lists in a row
+pub flat_map_from : {A B : Type 0} (f : A → List B) (xs : List A) (x : A) (y : B) → IsIn x xs → IsIn y (f x) → IsIn y (flat_map f xs)
+flat_map_from f [] x y i j = absurd i
+flat_map_from {A} {B} f (z ∷ zs) x y (inl same) j =
+    append_left (f z) (flat_map f zs) y (subst (λ (w : A). IsIn y (f w)) same j)
+flat_map_from f (z ∷ zs) x y (inr i) j = append_right (f z) (flat_map f zs) y (flat_map_from f zs x y i j)

@@ -11,11 +11,11 @@ use Rattle.asp_defs.specs.Sets.{set_text}
 use Rattle.asp_defs.specs.TextExamples as texts
 use Rattle.asp_defs.proofs.TextRefutations.{clash}
 
-pub a_log : IsLogOf texts.no_bases (codes "ASPQ-LOG 1\n2 T [] {}\n1 T [] {}\nLOG 2\n") texts.two_entries
+pub a_log : IsLogOf texts.no_bases (codes "ASPQ-LOG 2\n2 T [] {}\n1 T [] {}\nLOG 2\n") texts.two_entries
 unfolding digits
 a_log = (refl, refl)
 
-pub unended : IsUnendedLog texts.no_bases (codes "ASPQ-LOG 1\n2 T [] {}\n1 T [] {}\n")
+pub unended : IsUnendedLog texts.no_bases (codes "ASPQ-LOG 2\n2 T [] {}\n1 T [] {}\n")
 unfolding digits
 unended = inr (texts.two_entries, refl, refl)
 
@@ -82,7 +82,7 @@ begins_none (inl e) = clash (ap is_empty e)
 begins_none (inr (inl (entries, ok, e))) = open_differs entries ok e
 begins_none (inr (inr (entries, ok, e))) = closed_differs entries ok e
 
-pub bad_line : IsBadLine texts.no_bases (codes "ASPQ-LOG 1\n2 T [] {}\n1 X [] {}\nLOG 2\n") 3
+pub bad_line : IsBadLine texts.no_bases (codes "ASPQ-LOG 2\n2 T [] {}\n1 X [] {}\nLOG 2\n") 3
 unfolding digits
 bad_line = (
   log_header ∷ second ∷ [],
@@ -93,3 +93,19 @@ bad_line = (
   inr (inl (record { level = 2; cube = []; verdict = true; seed = [] } ∷ [], refl, refl)),
   begins_none,
 )
+
+-- the first line of another version
+abbrev older : List ℕ
+older = codes "ASPQ-LOG 1\n"
+
+abbrev first : List (List ℕ) → List ℕ
+first lines = get_or lines 0 []
+
+older_begins_none : BeginsLog texts.no_bases (older ∷ []) → ⊥
+older_begins_none (inl e) = clash (ap is_empty e)
+older_begins_none (inr (inl (entries, ok, e))) = clash (sym (ap (λ ls. byte_at 9 (first ls) == 49) e))
+older_begins_none (inr (inr (entries, ok, e))) = clash (sym (ap (λ ls. byte_at 9 (first ls) == 49) e))
+
+pub other_version : IsBadLine texts.no_bases (codes "ASPQ-LOG 1\nLOG 0\n") 1
+unfolding digits
+other_version = ([], older, _ ∷ [], refl, refl, inl refl, older_begins_none)

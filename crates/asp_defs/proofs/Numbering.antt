@@ -43,7 +43,7 @@ bare_element e = make_element (bare_atom e.atom) (map bare_literal e.cond)
 
 abbrev pub bare_head : Head → Head
 bare_head (Disj atoms) = Disj (map bare_atom atoms)
-bare_head (Choice elements) = Choice (map bare_element elements)
+bare_head (Choice low elements high) = Choice low (map bare_element elements) high
 
 abbrev pub make_rule : Head → List Literal → Rule
 make_rule head body = record { head = head; body = body }
@@ -126,11 +126,11 @@ element_fills e more =
 
 abbrev fill_head : Fill Head
 fill_head (Disj atoms) ks = (Disj (fill_all fill_atom atoms ks).0, (fill_all fill_atom atoms ks).1)
-fill_head (Choice elements) ks = (Choice (fill_all fill_element elements ks).0, (fill_all fill_element elements ks).1)
+fill_head (Choice low elements high) ks = (Choice low (fill_all fill_element elements ks).0 high, (fill_all fill_element elements ks).1)
 
 head_fills : Fills fill_head bare_head head_anonymous
 head_fills (Disj atoms) more = ap (λ p. (Disj p.0, p.1)) (all_fill fill_atom bare_atom atom_anonymous atom_fills atoms more)
-head_fills (Choice elements) more = ap (λ p. (Choice p.0, p.1)) (all_fill fill_element bare_element element_anonymous element_fills elements more)
+head_fills (Choice low elements high) more = ap (λ p. (Choice low p.0 high, p.1)) (all_fill fill_element bare_element element_anonymous element_fills elements more)
 
 abbrev fill_rule : Fill Rule
 fill_rule r ks = (make_rule (fill_both fill_head (fill_all fill_literal) r.head r.body ks).0.0 (fill_both fill_head (fill_all fill_literal) r.head r.body ks).0.1, (fill_both fill_head (fill_all fill_literal) r.head r.body ks).1)

@@ -20,7 +20,7 @@ use Rattle.asp_defs.proofs.Lists.{both, and_true, true_or_false, not_true, all_a
 use Rattle.asp_defs.proofs.Subsets.{true_is_not_false, holds_at, holds_from, subset-member, filter-subset}
 use Rattle.asp_defs.proofs.HistoryLaws.{agrees_at, agrees_from, disagrees_at, drop-next, legal_is_sound, legal-one_more, prefixes_are_legal}
 use Rattle.asp_defs.proofs.Fixing.{holds_not, is_subset_from, move-answer}
-use Rattle.asp_defs.proofs.Irrelevance.{base-up, AgreeFrom, values_rest_on_rules}
+use Rattle.asp_defs.proofs.Irrelevance.{base-up, AgreeFrom, values_rest_on_rules_and_bounds}
 use Rattle.asp_defs.proofs.FoundedLaws.{all_false}
 use Rattle.asp_defs.proofs.CellLaws.{split}
 
@@ -30,7 +30,7 @@ use Rattle.asp_defs.proofs.CellLaws.{split}
 abbrev literal_in : List ℕ → ℕ → Lit
 literal_in M a = record { atom = a; positive = holds M a }
 
--- the literals of an outer move on the atoms that stand in a rule of its level or of a later one
+-- the literals of an outer move on the atoms that stand in a rule or bound of its level or of a later one
 abbrev allowed_atoms : Game → ℕ → List ℕ
 allowed_atoms g level = filter (stands_from g level) (base g (level - 1))
 
@@ -173,7 +173,7 @@ full-justified g H level M valid first last inside legal behind =
     all_from (is_justified_at g H (drop (level - 1) g.quants) level (value g level M)) (held_moves g level (full_cube g level M)) (λ I i.
     let found = filter_at (cube_holds (full_cube g level M)) (subsets (base g (level - 1))) I i in
     let same : value g level M ≡ value g level I =
-    values_rest_on_rules g level M I valid first last inside found.0 (full_cube-agrees g level M I inside found.0 found.1) in
+    values_rest_on_rules_and_bounds g level M I valid first last inside found.0 (full_cube-agrees g level M I inside found.0 found.1) in
     subst (λ (v : Bool). is_justified_at g H (drop (level - 1) g.quants) level v I ≡ true) (sym same)
     (value-justified g H (drop (level - 1) g.quants) level I first (legal_is_sound g H legal) refl behind))
 

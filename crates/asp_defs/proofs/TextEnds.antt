@@ -1,7 +1,7 @@
 -- A program's last token is a directive or a full stop: each production takes a front of the tokens, and the last that is
 -- taken is the full stop of a statement or a directive.
 use Rattle.std.proofs.Common.{◌≡◌, refl, sym, ◌∙◌, ap, subst, inl, inr, Bool, false, not, List, [], ◌∷◌, ◌++◌, append_assoc, codes}
-use Rattle.std.specs.Prelude.{IsTrue}
+use Rattle.std.specs.Prelude.{IsTrue, None, Some}
 use Rattle.asp_defs.specs.declared.syntax.Term.{Term}
 use Rattle.asp_defs.specs.declared.syntax.Term.TheVariants.{Int, Sym, Var, Anon, Range}
 use Rattle.asp_defs.specs.declared.syntax.Literal.TheVariants.{Pos, Neg, Cmp}
@@ -9,8 +9,8 @@ use Rattle.asp_defs.specs.declared.syntax.Head.TheVariants.{Disj, Choice}
 use Rattle.asp_defs.specs.declared.syntax.Rule.{Rule}
 use Rattle.asp_defs.specs.declared.syntax.Part.{Part}
 use Rattle.asp_defs.specs.Lists.{is_empty}
-use Rattle.asp_defs.specs.Tokens.{Token, DirectiveToken, DotToken, ArrowToken, LeftParenToken, RightParenToken, LeftBraceToken, RightBraceToken, NumberToken, DotsToken}
-use Rattle.asp_defs.specs.Grammar.{Production, AllAt, JoinedAt, AnyJoinedAt, is_comma, is_semicolon, is_or, TermAt, WideTermAt, ArgumentsAt, AtomWithAt, LiteralAt, BodyAt, SignedBodyAt, ElementAt, HeadAt, StatementAt, quant_word, LevelAt, ConstraintPartAt}
+use Rattle.asp_defs.specs.Tokens.{Token, DirectiveToken, NameToken, MinusToken, DotToken, ArrowToken, LeftParenToken, RightParenToken, LeftBraceToken, RightBraceToken, NumberToken, DotsToken}
+use Rattle.asp_defs.specs.Grammar.{Production, AllAt, JoinedAt, AnyJoinedAt, is_comma, is_semicolon, is_or, TermAt, WideTermAt, ArgumentsAt, PredicateAt, AtomWithAt, LiteralAt, BodyAt, SignedBodyAt, ElementAt, BoundAt, HeadAt, StatementAt, quant_word, LevelAt, ConstraintPartAt}
 use Rattle.asp_defs.specs.TextRefusals.{statement_after, IsNoProgram}
 use Rattle.asp_defs.specs.TextLaws.{EndsProgram, ProgramsEnd}
 use Rattle.asp_defs.proofs.TextRefutations.{clash}
@@ -65,8 +65,12 @@ arguments_take take args ts rest (inl (none, e)) = same e
 arguments_take take args ts rest (inr (mid, e, terms)) =
     behind LeftParenToken e (through (any_take is_comma take args mid (RightParenToken ∷ rest) terms) (behind RightParenToken refl (same refl)))
 
+predicate_takes : Takes PredicateAt
+predicate_takes name ts rest (inl e) = behind _ e (same refl)
+predicate_takes name ts rest (inr (bare, n, e)) = (MinusToken ∷ NameToken bare ∷ [], e)
+
 atom_takes : {At : Production Term} → Takes At → Takes (AtomWithAt At)
-atom_takes take a ts rest (mid, e, args) = behind _ e (arguments_take take a.args mid rest args)
+atom_takes take a ts rest (mid, n, args) = through (predicate_takes a.name ts mid n) (arguments_take take a.args mid rest args)
 
 literal_takes : Takes LiteralAt
 literal_takes (Pos a) ts rest h = atom_takes term_takes a ts rest h
@@ -84,10 +88,15 @@ signed_takes sign body ts rest (inr (mid, e, h)) = behind sign e (body_takes bod
 element_takes : Takes ElementAt
 element_takes e ts rest (mid, atom, cond) = through (atom_takes term_takes e.atom ts mid atom) (signed_takes _ e.cond mid rest cond)
 
+bound_takes : Takes BoundAt
+bound_takes None ts rest e = same e
+bound_takes (Some x) ts rest e = behind _ e (same refl)
+
 head_takes : Takes HeadAt
 head_takes (Disj atoms) ts rest h = joined_take is_or (atom_takes term_takes) atoms ts rest h
-head_takes (Choice elements) ts rest (mid, e, h) =
-    behind LeftBraceToken e (through (any_take is_semicolon element_takes elements mid (RightBraceToken ∷ rest) h) (behind RightBraceToken refl (same refl)))
+head_takes (Choice low elements high) ts rest (mid, closed, l, h, u) =
+    through (bound_takes low ts (LeftBraceToken ∷ mid) l) (behind LeftBraceToken refl
+    (through (any_take is_semicolon element_takes elements mid (RightBraceToken ∷ closed) h) (behind RightBraceToken refl (bound_takes high closed rest u))))
 
 -- a statement takes a front and the full stop behind it
 statement_takes : (r : Rule) (ts rest : List Token) → StatementAt r ts rest → Follows ts (DotToken ∷ rest)

@@ -1,6 +1,6 @@
 -- Refutations: tokens with which no program begins, by the token that comes first, or behind a directive, or behind a name.
-use Rattle.std.proofs.Common.{ℕ, ◌≡◌, ◌⊎◌, refl, sym, ◌∙◌, ap, subst, inl, inr, Bool, true, false, not, ◌||◌, List, [], ◌∷◌, drop, codes}
-use Rattle.std.specs.Prelude.{IsTrue, bytes_eq}
+use Rattle.std.proofs.Common.{ℕ, ℤ, ◌≡◌, ◌⊎◌, refl, sym, ◌∙◌, ap, subst, inl, inr, Bool, true, false, not, ◌||◌, List, [], ◌∷◌, drop, codes}
+use Rattle.std.specs.Prelude.{IsTrue, bytes_eq, Option, None, Some}
 use Rattle.asp_defs.specs.declared.syntax.Quant.{Quant}
 use Rattle.asp_defs.specs.declared.syntax.Quant.TheVariants.{Exists, Forall}
 use Rattle.asp_defs.specs.declared.syntax.Term.{Term}
@@ -11,8 +11,8 @@ use Rattle.asp_defs.specs.declared.syntax.Head.TheVariants.{Disj, Choice}
 use Rattle.asp_defs.specs.declared.syntax.Rule.{Rule}
 use Rattle.asp_defs.specs.declared.syntax.Part.{Part}
 use Rattle.asp_defs.specs.declared.syntax.Program.{Program}
-use Rattle.asp_defs.specs.Tokens.{Token, DirectiveToken, NameToken, ArrowToken, DotToken, SemicolonToken, BarToken, LeftParenToken, LeftBraceToken}
-use Rattle.asp_defs.specs.Grammar.{Production, AllAt, JoinedAt, is_or, TermAt, WideTermAt, ArgumentsAt, AtomWithAt, AtomAt, HeadAt, SignedBodyAt, StatementAt, quant_word, LevelAt, ConstraintPartAt, IsProgram}
+use Rattle.asp_defs.specs.Tokens.{Token, DirectiveToken, NameToken, NumberToken, MinusToken, ArrowToken, DotToken, SemicolonToken, BarToken, LeftParenToken, LeftBraceToken}
+use Rattle.asp_defs.specs.Grammar.{Production, AllAt, JoinedAt, is_or, TermAt, WideTermAt, ArgumentsAt, PredicateAt, AtomWithAt, AtomAt, BoundAt, HeadAt, SignedBodyAt, StatementAt, quant_word, LevelAt, ConstraintPartAt, IsProgram}
 use Rattle.asp_defs.specs.Lists.{is_empty}
 use Rattle.asp_defs.specs.TextRefusals.{IsViable}
 
@@ -31,23 +31,35 @@ begins p (t ∷ ts) = p t
 
 -- ---- what a statement begins with
 
+-- what a name or a minus does, an atom's name does
+pub predicate_begins : (p : Token → Bool) (v : Bool) → ((n : List ℕ) → p (NameToken n) ≡ v) → p MinusToken ≡ v → (name : List ℕ) (ts rest : List Token) → PredicateAt name ts rest → begins p ts ≡ v
+predicate_begins p v names minus name ts rest (inl e) = ap (begins p) e ∙ names name
+predicate_begins p v names minus name ts rest (inr (bare, n, e)) = ap (begins p) e ∙ minus
+
+-- what an opening brace or a number does, a lower bound with the brace behind it does
+pub low_begins : (p : Token → Bool) (v : Bool) → ((x : ℤ) → p (NumberToken x) ≡ v) → p LeftBraceToken ≡ v → (low : Option ℤ) (ts rest : List Token) → BoundAt low ts (LeftBraceToken ∷ rest) → begins p ts ≡ v
+low_begins p v numbers brace None ts rest e = ap (begins p) e ∙ brace
+low_begins p v numbers brace (Some x) ts rest e = ap (begins p) e ∙ numbers x
+
 abbrev pub opens_statement : Token → Bool
 opens_statement (NameToken n) = true
+opens_statement MinusToken = true
+opens_statement (NumberToken x) = true
 opens_statement LeftBraceToken = true
 opens_statement ArrowToken = true
 opens_statement other = false
 
 joined_begins : (joins : Token → Bool) (atoms : List Atom) (ts rest : List Token) → JoinedAt joins AtomAt atoms ts rest → begins opens_statement ts ≡ true
 joined_begins joins [] ts rest h = absurd h
-joined_begins joins (a ∷ []) ts rest (mid, e, args) = ap (begins opens_statement) e
-joined_begins joins (a ∷ b ∷ more) ts rest (sign, next, j, (mid, e, args), others) = ap (begins opens_statement) e
+joined_begins joins (a ∷ []) ts rest (mid, n, args) = predicate_begins opens_statement true (λ m. refl) refl a.name ts mid n
+joined_begins joins (a ∷ b ∷ more) ts rest (sign, next, j, (mid, n, args), others) = predicate_begins opens_statement true (λ m. refl) refl a.name ts mid n
 
 head_begins : (head : Head) (ts rest : List Token) → HeadAt head ts rest → begins opens_statement ts ≡ true
 head_begins (Disj atoms) ts rest h = joined_begins is_or atoms ts rest h
-head_begins (Choice elements) ts rest (mid, e, more) = ap (begins opens_statement) e
+head_begins (Choice low elements high) ts rest (mid, closed, l, more, u) = low_begins opens_statement true (λ x. refl) refl low ts mid l
 
 pub statement_begins : (r : Rule) (ts rest : List Token) → StatementAt r ts rest → begins opens_statement ts ≡ true
-statement_begins r ts rest (n, inl (a, eh, eb, (mid, e, args))) = ap (begins opens_statement) e
+statement_begins r ts rest (n, inl (a, eh, eb, (mid, p, args))) = predicate_begins opens_statement true (λ m. refl) refl a.name ts mid p
 statement_begins r ts rest (n, inr (inl (mid, h, body))) = head_begins r.head ts mid h
 statement_begins r ts rest (n, inr (inr (mid, eh, e, body))) = ap (begins opens_statement) e
 
@@ -90,6 +102,8 @@ no_first t wrong (more, p, h) = clash (sym wrong ∙ program_begins (t ∷ more)
 abbrev continues : Token → Bool
 continues (DirectiveToken word) = true
 continues (NameToken n) = true
+continues MinusToken = true
+continues (NumberToken x) = true
 continues LeftBraceToken = true
 continues ArrowToken = true
 continues other = false
@@ -137,6 +151,8 @@ parts_begin (part ∷ parts) cons ts mid (next, l, more) c = inr (level_is_part 
 
 statement_continues : (t : Token) → opens_statement t ≡ true → continues t ≡ true
 statement_continues (NameToken n) e = refl
+statement_continues MinusToken e = refl
+statement_continues (NumberToken x) e = refl
 statement_continues LeftBraceToken e = refl
 statement_continues ArrowToken e = refl
 statement_continues other e = clash e
@@ -185,7 +201,7 @@ no_level_after (more, p, h) =
       ]
     ]
 
--- ---- what follows the name at the beginning of a statement
+-- ---- what follows the first token of a statement
 
 abbrev follows : Token → Bool
 follows LeftParenToken = true
@@ -194,6 +210,21 @@ follows ArrowToken = true
 follows BarToken = true
 follows SemicolonToken = true
 follows other = false
+
+abbrev is_name_token : Token → Bool
+is_name_token (NameToken n) = true
+is_name_token other = false
+
+abbrev is_opening_brace : Token → Bool
+is_opening_brace LeftBraceToken = true
+is_opening_brace other = false
+
+-- what may stand behind a name, a minus and a number at the beginning of a statement; the other tokens don't matter here
+abbrev may_follow : Token → Token → Bool
+may_follow (NameToken n) t = follows t
+may_follow MinusToken t = is_name_token t
+may_follow (NumberToken x) t = is_opening_brace t
+may_follow other t = true
 
 or_follows : (t : Token) → is_or t ≡ true → follows t ≡ true
 or_follows BarToken e = refl
@@ -204,40 +235,48 @@ arguments_follow : (At : Production Term) (args : List Term) (t : Token) (more r
 arguments_follow At args t more rest (inl (none, e)) given = ap (begins follows) e ∙ given
 arguments_follow At args t more rest (inr (mid, e, terms)) given = ap (begins follows) e
 
-atom_follow : (At : Production Term) (a : Atom) (n t : Token) (more rest : List Token) → AtomWithAt At a (n ∷ t ∷ more) rest → begins follows rest ≡ true → follows t ≡ true
-atom_follow At a n t more rest (mid, e, args) given =
-    arguments_follow At a.args t more rest (subst (λ us. ArgumentsAt At a.args us rest) (sym (ap (drop 1) e)) args) given
+-- the first of tokens
+abbrev first_of : List Token → Token
+first_of [] = DotToken
+first_of (t ∷ ts) = t
+
+atom_follow : (At : Production Term) (a : Atom) (u t : Token) (more rest : List Token) → AtomWithAt At a (u ∷ t ∷ more) rest → begins follows rest ≡ true → may_follow u t ≡ true
+atom_follow At a u t more rest (mid, inl e, args) given =
+    ap (λ us. may_follow (first_of us) t) e
+    ∙ arguments_follow At a.args t more rest (subst (λ us. ArgumentsAt At a.args us rest) (sym (ap (drop 1) e)) args) given
+atom_follow At a u t more rest (mid, inr (bare, n, e), args) given =
+    ap (λ us. may_follow (first_of us) (first_of (drop 1 us))) e
 
 signed_follow : (body : List Literal) (mid rest : List Token) → SignedBodyAt ArrowToken body mid (DotToken ∷ rest) → begins follows mid ≡ true
 signed_follow body mid rest (inl (none, e)) = ap (begins follows) e
 signed_follow body mid rest (inr (next, e, literals)) = ap (begins follows) e
 
-joined_follow : (atoms : List Atom) (n t : Token) (more mid : List Token) → JoinedAt is_or AtomAt atoms (n ∷ t ∷ more) mid → begins follows mid ≡ true → follows t ≡ true
-joined_follow [] n t more mid h given = absurd h
-joined_follow (a ∷ []) n t more mid h given = atom_follow TermAt a n t more mid h given
-joined_follow (a ∷ b ∷ others) n t more mid (sign, next, j, first, rest) given =
-    atom_follow TermAt a n t more (sign ∷ next) first (or_follows sign j)
+joined_follow : (atoms : List Atom) (u t : Token) (more mid : List Token) → JoinedAt is_or AtomAt atoms (u ∷ t ∷ more) mid → begins follows mid ≡ true → may_follow u t ≡ true
+joined_follow [] u t more mid h given = absurd h
+joined_follow (a ∷ []) u t more mid h given = atom_follow TermAt a u t more mid h given
+joined_follow (a ∷ b ∷ others) u t more mid (sign, next, j, first, rest) given =
+    atom_follow TermAt a u t more (sign ∷ next) first (or_follows sign j)
 
-abbrev is_name_token : Token → Bool
-is_name_token (NameToken n) = true
-is_name_token other = false
+low_follow : (low : Option ℤ) (u t : Token) (more mid : List Token) → BoundAt low (u ∷ t ∷ more) (LeftBraceToken ∷ mid) → may_follow u t ≡ true
+low_follow None u t more mid e = ap (λ us. may_follow (first_of us) t) e
+low_follow (Some x) u t more mid e = ap (λ us. may_follow (first_of us) (first_of (drop 1 us))) e
 
-head_follow : (head : Head) (name : List ℕ) (t : Token) (more mid : List Token) → HeadAt head (NameToken name ∷ t ∷ more) mid → begins follows mid ≡ true → follows t ≡ true
-head_follow (Disj atoms) name t more mid h given = joined_follow atoms (NameToken name) t more mid h given
-head_follow (Choice elements) name t more mid (next, e, rest) given = clash (sym (ap (begins is_name_token) e))
+head_follow : (head : Head) (u t : Token) (more mid : List Token) → HeadAt head (u ∷ t ∷ more) mid → begins follows mid ≡ true → may_follow u t ≡ true
+head_follow (Disj atoms) u t more mid h given = joined_follow atoms u t more mid h given
+head_follow (Choice low elements high) u t more mid (next, closed, l, rest, v) given = low_follow low u t more next l
 
-statement_follow : (r : Rule) (name : List ℕ) (t : Token) (more rest : List Token) → StatementAt r (NameToken name ∷ t ∷ more) rest → follows t ≡ true
-statement_follow r name t more rest (n, inl (a, eh, eb, fact)) = atom_follow WideTermAt a (NameToken name) t more (DotToken ∷ rest) fact refl
-statement_follow r name t more rest (n, inr (inl (mid, head, body))) = head_follow r.head name t more mid head (signed_follow r.body mid rest body)
-statement_follow r name t more rest (n, inr (inr (mid, eh, e, body))) = clash (sym (ap (begins is_name_token) e))
+statement_follow : (r : Rule) (u t : Token) (more rest : List Token) → StatementAt r (u ∷ t ∷ more) rest → may_follow u t ≡ true
+statement_follow r u t more rest (n, inl (a, eh, eb, fact)) = atom_follow WideTermAt a u t more (DotToken ∷ rest) fact refl
+statement_follow r u t more rest (n, inr (inl (mid, head, body))) = head_follow r.head u t more mid head (signed_follow r.body mid rest body)
+statement_follow r u t more rest (n, inr (inr (mid, eh, e, body))) = ap (λ us. may_follow (first_of us) t) e
 
-statements_follow : (rules : List Rule) (name : List ℕ) (t : Token) (more behind : List Token) → AllAt StatementAt rules (NameToken name ∷ t ∷ more) behind → (behind ≡ []) ⊎ (begins opens_part behind ≡ true) → follows t ≡ true
-statements_follow [] name t more behind e (inl none) = clash (ap is_empty (e ∙ none))
-statements_follow [] name t more behind e (inr opens) = clash (ap (begins opens_part) e ∙ opens)
-statements_follow (r ∷ rules) name t more behind (mid, s, others) next = statement_follow r name t more mid s
+statements_follow : (rules : List Rule) (u t : Token) (more behind : List Token) → AllAt StatementAt rules (u ∷ t ∷ more) behind → opens_part u ≡ false → (behind ≡ []) ⊎ (begins opens_part behind ≡ true) → may_follow u t ≡ true
+statements_follow [] u t more behind e closed (inl none) = clash (ap is_empty (e ∙ none))
+statements_follow [] u t more behind e closed (inr opens) = clash (sym closed ∙ ap (begins opens_part) e ∙ opens)
+statements_follow (r ∷ rules) u t more behind (mid, s, others) closed next = statement_follow r u t more mid s
 
 -- no program has another token there
-pub no_third : (d : Token) (name : List ℕ) (t : Token) → follows t ≡ false → IsViable (d ∷ NameToken name ∷ t ∷ []) → ⊥
-no_third d name t wrong (more, p, h) =
-    let s = split_program (d ∷ NameToken name ∷ t ∷ more) p h in
-    clash (sym wrong ∙ statements_follow s.part.rules name t more s.behind s.rules (parts_begin s.parts p.cons s.behind s.mid s.levels s.cons))
+pub no_third : (d u t : Token) → opens_part u ≡ false → may_follow u t ≡ false → IsViable (d ∷ u ∷ t ∷ []) → ⊥
+no_third d u t closed wrong (more, p, h) =
+    let s = split_program (d ∷ u ∷ t ∷ more) p h in
+    clash (sym wrong ∙ statements_follow s.part.rules u t more s.behind s.rules closed (parts_begin s.parts p.cons s.behind s.mid s.levels s.cons))

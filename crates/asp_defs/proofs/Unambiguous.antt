@@ -1,10 +1,10 @@
 -- No tokens are two programs: two readings of the same tokens have the same part and the same rest, where what follows a
 -- part is among the tokens that may.
-use Rattle.std.proofs.Common.{ℕ, ◌≡◌, refl, sym, ◌∙◌, ap, subst, inl, inr, Bool, true, false, List, [], ◌∷◌, map, drop}
+use Rattle.std.proofs.Common.{ℕ, ◌≡◌, refl, sym, ◌∙◌, ap, subst, inl, inr, Bool, true, false, List, [], ◌∷◌, ◌++◌, map, drop, codes}
 use Rattle.asp_defs.specs.declared.syntax.Term.{Term}
 use Rattle.asp_defs.specs.declared.syntax.Term.TheVariants.{Int, Sym, Var, Anon, Range}
-use Rattle.asp_defs.specs.Tokens.{Token, NameToken, VariableToken, AnonymousToken, NumberToken, ArrowToken, ColonToken, DotToken, DotsToken, CommaToken, SemicolonToken, BarToken, RightParenToken, RightBraceToken}
-use Rattle.asp_defs.specs.Grammar.{Production, JoinedAt, AnyJoinedAt, is_comma, TermAt, WideTermAt, ArgumentsAt, AtomWithAt, AtomAt, WideAtomAt}
+use Rattle.asp_defs.specs.Tokens.{Token, NameToken, VariableToken, AnonymousToken, NumberToken, MinusToken, ArrowToken, ColonToken, DotToken, DotsToken, CommaToken, SemicolonToken, BarToken, RightParenToken, RightBraceToken}
+use Rattle.asp_defs.specs.Grammar.{Production, JoinedAt, AnyJoinedAt, is_comma, TermAt, WideTermAt, ArgumentsAt, PredicateAt, AtomWithAt, AtomAt, WideAtomAt}
 use Rattle.asp_defs.proofs.Numbering.{bare_term, bare_atom, make_atom}
 use Rattle.asp_defs.proofs.TextRefutations.{clash, begins}
 
@@ -147,9 +147,14 @@ after_atom RightBraceToken = true
 after_atom CommaToken = true
 after_atom other = false
 
-abbrev pub first_name : List Token → List ℕ
-first_name (NameToken n ∷ ts) = n
-first_name ts = []
+abbrev pub read_predicate : List Token → List ℕ × List Token
+read_predicate (NameToken n ∷ r) = (n, r)
+read_predicate (MinusToken ∷ NameToken n ∷ r) = (codes "-" ++ n, r)
+read_predicate ts = ([], ts)
+
+pub predicate_reads : (name : List ℕ) (ts r : List Token) → PredicateAt name ts r → read_predicate ts ≡ (name, r)
+predicate_reads name ts r (inl e) = ap read_predicate e
+predicate_reads name ts r (inr (bare, n, e)) = ap read_predicate e ∙ ap (λ m. (m, r)) (sym n)
 
 arguments_alone : {At : Production Term} → Alone At bare_term in_args → Starts At is_close → Alone (ArgumentsAt At) (map bare_term) after_atom
 arguments_alone alone starts xs ys ts r s (inl (n, e)) (inl (m, f)) gr gs = (ap (map bare_term) (n ∙ sym m), sym e ∙ f)
@@ -161,11 +166,11 @@ arguments_alone {At} alone starts xs ys ts r s (inr (mid, e, h)) (inr (mid', f, 
     (d.0, ap (drop 1) d.1)
 
 atom_alone : {At : Production Term} → Alone At bare_term in_args → Starts At is_close → Alone (AtomWithAt At) bare_atom after_atom
-atom_alone {At} alone starts a b ts r s (mid, e, h) (mid', f, k) gr gs =
-    let whole = sym e ∙ f in
-    let same : mid ≡ mid' = ap (drop 1) whole in
+atom_alone {At} alone starts a b ts r s (mid, n, h) (mid', m, k) gr gs =
+    let whole = sym (predicate_reads a.name ts mid n) ∙ predicate_reads b.name ts mid' m in
+    let same : mid ≡ mid' = ap (λ p. p.1) whole in
     let d = arguments_alone alone starts a.args b.args mid r s h (subst (λ m. ArgumentsAt At b.args m s) (sym same) k) gr gs in
-    (ap (λ n. make_atom n (map bare_term a.args)) (ap first_name whole) ∙ ap (make_atom b.name) d.0, d.1)
+    (ap (λ p. make_atom p.0 (map bare_term a.args)) whole ∙ ap (make_atom b.name) d.0, d.1)
 
 pub single_atom_alone : Alone AtomAt bare_atom after_atom
 single_atom_alone = atom_alone single_alone (term_starts is_close (λ n. refl) (λ n. refl) (λ n. refl) refl)

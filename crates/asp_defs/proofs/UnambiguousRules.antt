@@ -1,6 +1,6 @@
 -- No tokens are two programs, continued: literals, bodies, heads, statements, levels and programs.
-use Rattle.std.proofs.Common.{ℕ, ◌≡◌, ◌⊎◌, refl, sym, ◌∙◌, ap, subst, inl, inr, Bool, true, false, List, [], ◌∷◌, map, drop}
-use Rattle.std.specs.Prelude.{◌==◌, if◌then◌else◌}
+use Rattle.std.proofs.Common.{ℕ, ℤ, ◌≡◌, ◌⊎◌, refl, sym, ◌∙◌, ap, subst, inl, inr, Bool, true, false, List, [], ◌∷◌, map, drop}
+use Rattle.std.specs.Prelude.{◌==◌, if◌then◌else◌, Option, None, Some}
 use Rattle.asp_defs.specs.declared.syntax.Quant.{Quant}
 use Rattle.asp_defs.specs.declared.syntax.Quant.TheVariants.{Exists, Forall}
 use Rattle.asp_defs.specs.declared.syntax.Op.{Op}
@@ -10,16 +10,17 @@ use Rattle.asp_defs.specs.declared.syntax.Term.TheVariants.{Int, Sym, Var, Anon,
 use Rattle.asp_defs.specs.declared.syntax.Atom.{Atom}
 use Rattle.asp_defs.specs.declared.syntax.Literal.{Literal}
 use Rattle.asp_defs.specs.declared.syntax.Literal.TheVariants.{Pos, Neg, Cmp}
+use Rattle.asp_defs.specs.declared.syntax.Element.{Element}
 use Rattle.asp_defs.specs.declared.syntax.Head.{Head}
 use Rattle.asp_defs.specs.declared.syntax.Head.TheVariants.{Disj, Choice}
 use Rattle.asp_defs.specs.declared.syntax.Rule.{Rule}
 use Rattle.asp_defs.specs.declared.syntax.Part.{Part}
 use Rattle.asp_defs.specs.declared.syntax.Program.{Program}
 use Rattle.asp_defs.specs.Lists.{is_empty}
-use Rattle.asp_defs.specs.Tokens.{Token, DirectiveToken, NotToken, ArrowToken, ColonToken, DotToken, CommaToken, SemicolonToken, BarToken, RightParenToken, LeftBraceToken, RightBraceToken, EqToken, NeToken, NeAngleToken, LtToken, LeToken, GtToken, GeToken}
-use Rattle.asp_defs.specs.Grammar.{Production, AllAt, JoinedAt, AnyJoinedAt, is_comma, is_semicolon, is_or, is_operator, TermAt, WideTermAt, ArgumentsAt, AtomAt, WideAtomAt, LiteralAt, BodyAt, SignedBodyAt, ElementAt, HeadAt, ConstraintAt, StatementAt, quant_word, LevelAt, ConstraintPartAt, IsProgram}
+use Rattle.asp_defs.specs.Tokens.{Token, DirectiveToken, NotToken, NameToken, NumberToken, MinusToken, ArrowToken, ColonToken, DotToken, CommaToken, SemicolonToken, BarToken, RightParenToken, LeftBraceToken, RightBraceToken, EqToken, NeToken, NeAngleToken, LtToken, LeToken, GtToken, GeToken}
+use Rattle.asp_defs.specs.Grammar.{Production, AllAt, JoinedAt, AnyJoinedAt, is_comma, is_semicolon, is_or, is_operator, TermAt, WideTermAt, ArgumentsAt, AtomAt, WideAtomAt, LiteralAt, BodyAt, SignedBodyAt, ElementAt, BoundAt, HeadAt, ConstraintAt, StatementAt, quant_word, LevelAt, ConstraintPartAt, IsProgram}
 use Rattle.asp_defs.proofs.Numbering.{bare_term, bare_atom, bare_literal, bare_element, make_element, bare_head, bare_rule, make_rule, same_rule}
-use Rattle.asp_defs.proofs.TextRefutations.{clash, begins, opens_statement, opens_level, statement_begins, levels_begin, level_begins}
+use Rattle.asp_defs.proofs.TextRefutations.{clash, begins, predicate_begins, low_begins, opens_statement, opens_level, statement_begins, levels_begin, level_begins}
 use Rattle.asp_defs.proofs.Unambiguous.{lift, Alone, Starts, read_single, term_reads, term_alone, term_starts, after_atom, single_atom_alone, wide_atom_alone, joined_alone, any_alone}
 
 -- ---- literals
@@ -101,15 +102,24 @@ abbrev is_not : Token → Bool
 is_not NotToken = true
 is_not other = false
 
+abbrev is_minus : Token → Bool
+is_minus MinusToken = true
+is_minus other = false
+
+minus_starts : Starts TermAt is_minus
+minus_starts = term_starts is_minus (λ n. refl) (λ n. refl) (λ n. refl) refl
+
 not_starts : Starts TermAt is_not
 not_starts = term_starts is_not (λ n. refl) (λ n. refl) (λ n. refl) refl
 
 -- an atom isn't the left side of a comparison
 atom_or_term : (a : Atom) (x : Term) (ts r mid : List Token) (op : Op) (sign : Token) → AtomAt a ts r → TermAt x ts (sign ∷ mid) → is_operator op sign ≡ true → begins after_literal r ≡ true → ⊥
-atom_or_term a x ts r mid op sign (next, e, inl (n, f)) h o gr =
+atom_or_term a x ts r mid op sign (next, inr (bare, n, e), args) h o gr =
+    clash (sym (minus_starts x ts (sign ∷ mid) h) ∙ ap (begins is_minus) e)
+atom_or_term a x ts r mid op sign (next, inl e, inl (n, f)) h o gr =
     let same : sign ∷ mid ≡ next = ap (λ p. p.1) (sym (term_reads x ts (sign ∷ mid) h) ∙ ap read_single e) in
     sign_literal sign (operator_sign op sign o).1 (ap (begins after_literal) (same ∙ f) ∙ gr)
-atom_or_term a x ts r mid op sign (next, e, inr (inside, f, k)) h o gr =
+atom_or_term a x ts r mid op sign (next, inl e, inr (inside, f, k)) h o gr =
     let same : sign ∷ mid ≡ next = ap (λ p. p.1) (sym (term_reads x ts (sign ∷ mid) h) ∙ ap read_single e) in
     clash (ap (begins is_sign) (sym f ∙ sym same) ∙ (operator_sign op sign o).1)
 
@@ -117,7 +127,7 @@ not_or_term : (x : Term) (ts r mid : List Token) → (ts ≡ NotToken ∷ mid) �
 not_or_term x ts r mid e h = clash (sym (not_starts x ts r h) ∙ ap (begins is_not) e)
 
 not_or_atom : (a : Atom) (ts r mid : List Token) → (ts ≡ NotToken ∷ mid) → AtomAt a ts r → ⊥
-not_or_atom a ts r mid e (next, f, k) = clash (ap (begins is_not) (sym f ∙ e))
+not_or_atom a ts r mid e (next, n, k) = clash (sym (predicate_begins is_not false (λ m. refl) refl a.name ts next n) ∙ ap (begins is_not) e)
 
 abbrev first_of : List Token → Token
 first_of [] = DotToken
@@ -143,7 +153,7 @@ literal_alone (Cmp x op y) (Cmp x' op' y') ts r s (sign, mid, o, left, right) (s
     (ap (λ z. Cmp z op (bare_term y)) d.0 ∙ ap (λ q. Cmp (bare_term x') q (bare_term y)) ops ∙ ap (λ z. Cmp (bare_term x') op' z) f.0, f.1)
 
 literal_starts : Starts LiteralAt after_body
-literal_starts (Pos a) ts r (mid, e, k) = ap (begins after_body) e
+literal_starts (Pos a) ts r (mid, n, k) = predicate_begins after_body false (λ m. refl) refl a.name ts mid n
 literal_starts (Neg a) ts r (mid, e, k) = ap (begins after_body) e
 literal_starts (Cmp x op y) ts r (sign, mid, o, left, right) = term_starts after_body (λ n. refl) (λ n. refl) (λ n. refl) refl x ts (sign ∷ mid) left
 
@@ -195,7 +205,7 @@ semicolon_brace SemicolonToken h k = clash k
 semicolon_brace other h k = clash h
 
 element_starts : Starts ElementAt is_brace
-element_starts x ts r (mid, (next, e, args), c) = ap (begins is_brace) e
+element_starts x ts r (mid, (next, n, args), c) = predicate_begins is_brace false (λ m. refl) refl x.atom.name ts next n
 
 elements_alone : Alone (AnyJoinedAt is_semicolon ElementAt) (map bare_element) is_brace
 elements_alone = any_alone element_alone is_semicolon is_brace semicolon_body brace_body semicolon_brace element_starts
@@ -203,7 +213,7 @@ elements_alone = any_alone element_alone is_semicolon is_brace semicolon_body br
 -- heads whose atoms may have intervals, so that a fact is a rule too
 abbrev WideHeadAt : Production Head
 WideHeadAt (Disj atoms) ts rest = JoinedAt is_or WideAtomAt atoms ts rest
-WideHeadAt (Choice elements) ts rest = HeadAt (Choice elements) ts rest
+WideHeadAt (Choice low elements high) ts rest = HeadAt (Choice low elements high) ts rest
 
 abbrev after_head : Token → Bool
 after_head ArrowToken = true
@@ -225,24 +235,63 @@ or_head BarToken h k = clash k
 or_head SemicolonToken h k = clash k
 or_head other h k = clash h
 
-abbrev is_open_brace : Token → Bool
-is_open_brace LeftBraceToken = true
-is_open_brace other = false
+-- the first token of a choice
+abbrev opens_choice : Token → Bool
+opens_choice LeftBraceToken = true
+opens_choice (NumberToken x) = true
+opens_choice other = false
 
-disjunction_begins : (atoms : List Atom) (ts r : List Token) → JoinedAt is_or WideAtomAt atoms ts r → begins is_open_brace ts ≡ false
-disjunction_begins [] ts r h = absurd h
-disjunction_begins (a ∷ []) ts r (mid, e, args) = ap (begins is_open_brace) e
-disjunction_begins (a ∷ b ∷ more) ts r (sign, next, j, (mid, e, args), others) = ap (begins is_open_brace) e
+disjunction_begins : (p : Token → Bool) → ((n : List ℕ) → p (NameToken n) ≡ false) → p MinusToken ≡ false → (atoms : List Atom) (ts r : List Token) → JoinedAt is_or WideAtomAt atoms ts r → begins p ts ≡ false
+disjunction_begins p names minus [] ts r h = absurd h
+disjunction_begins p names minus (a ∷ []) ts r (mid, n, args) = predicate_begins p false names minus a.name ts mid n
+disjunction_begins p names minus (a ∷ b ∷ more) ts r (sign, next, j, (mid, n, args), others) = predicate_begins p false names minus a.name ts mid n
+
+disjunction_or_choice : {A : Type 0} (atoms : List Atom) (low : Option ℤ) (ts r mid : List Token) → JoinedAt is_or WideAtomAt atoms ts r → BoundAt low ts (LeftBraceToken ∷ mid) → A
+disjunction_or_choice atoms low ts r mid h l =
+    clash (sym (disjunction_begins opens_choice (λ n. refl) refl atoms ts r h) ∙ low_begins opens_choice true (λ x. refl) refl low ts mid l)
+
+-- a bound, where no number follows it
+abbrev is_number : Token → Bool
+is_number (NumberToken x) = true
+is_number other = false
+
+abbrev read_bound : List Token → Option ℤ × List Token
+read_bound (NumberToken x ∷ r) = (Some x, r)
+read_bound ts = (None, ts)
+
+no_bound : (r : List Token) → begins is_number r ≡ false → read_bound r ≡ (None, r)
+no_bound [] h = refl
+no_bound (NumberToken x ∷ r) h = clash (sym h)
+no_bound (other ∷ r) h = refl
+
+bound_reads : (b : Option ℤ) (ts r : List Token) → BoundAt b ts r → begins is_number r ≡ false → read_bound ts ≡ (b, r)
+bound_reads None ts r e h = ap read_bound e ∙ no_bound r h
+bound_reads (Some x) ts r e h = ap read_bound e
+
+bound_alone : (b c : Option ℤ) (ts r s : List Token) → BoundAt b ts r → BoundAt c ts s → begins is_number r ≡ false → begins is_number s ≡ false → (b ≡ c) × (r ≡ s)
+bound_alone b c ts r s h k gr gs =
+    let e = sym (bound_reads b ts r h gr) ∙ bound_reads c ts s k gs in (ap (λ p. p.0) e, ap (λ p. p.1) e)
+
+head_no_number : (r : List Token) → begins after_head r ≡ true → begins is_number r ≡ false
+head_no_number [] h = refl
+head_no_number (NumberToken x ∷ r) h = clash h
+head_no_number (other ∷ r) h = refl
+
+choices_agree : (low low' : Option ℤ) (elements others : List Element) (high high' : Option ℤ) (ts r s : List Token) → HeadAt (Choice low elements high) ts r → HeadAt (Choice low' others high') ts s → begins after_head r ≡ true → begins after_head s ≡ true → (bare_head (Choice low elements high) ≡ bare_head (Choice low' others high')) × (r ≡ s)
+choices_agree low low' elements others high high' ts r s (mid, closed, l, h, u) (mid', closed', l', k, u') gr gs =
+    let d = bound_alone low low' ts (LeftBraceToken ∷ mid) (LeftBraceToken ∷ mid') l l' refl refl in
+    let same : mid ≡ mid' = ap (drop 1) d.1 in
+    let e = elements_alone elements others mid (RightBraceToken ∷ closed) (RightBraceToken ∷ closed') h (subst (λ m. AnyJoinedAt is_semicolon ElementAt others m (RightBraceToken ∷ closed')) (sym same) k) refl refl in
+    let f = bound_alone high high' closed r s u (subst (λ c. BoundAt high' c s) (sym (ap (drop 1) e.1)) u') (head_no_number r gr) (head_no_number s gs) in
+    (ap (λ b. Choice b (map bare_element elements) high) d.0 ∙ ap (λ es. Choice low' es high) e.0 ∙ ap (Choice low' (map bare_element others)) f.0, f.1)
 
 wide_head_alone : Alone WideHeadAt bare_head after_head
 wide_head_alone (Disj atoms) (Disj others) ts r s h k gr gs =
     let d = joined_alone wide_atom_alone is_or after_head or_atom head_atom or_head atoms others ts r s h k gr gs in (ap Disj d.0, d.1)
-wide_head_alone (Disj atoms) (Choice elements) ts r s h (mid, e, k) gr gs = clash (sym (disjunction_begins atoms ts r h) ∙ ap (begins is_open_brace) e)
-wide_head_alone (Choice elements) (Disj atoms) ts r s (mid, e, h) k gr gs = clash (sym (disjunction_begins atoms ts s k) ∙ ap (begins is_open_brace) e)
-wide_head_alone (Choice elements) (Choice others) ts r s (mid, e, h) (mid', f, k) gr gs =
-    let same : mid ≡ mid' = ap (drop 1) (sym e ∙ f) in
-    let d = elements_alone elements others mid (RightBraceToken ∷ r) (RightBraceToken ∷ s) h (subst (λ m. AnyJoinedAt is_semicolon ElementAt others m (RightBraceToken ∷ s)) (sym same) k) refl refl in
-    (ap Choice d.0, ap (drop 1) d.1)
+wide_head_alone (Disj atoms) (Choice low elements high) ts r s h (mid, closed, l, k, u) gr gs = disjunction_or_choice atoms low ts r mid h l
+wide_head_alone (Choice low elements high) (Disj atoms) ts r s (mid, closed, l, h, u) k gr gs = disjunction_or_choice atoms low ts s mid k l
+wide_head_alone (Choice low elements high) (Choice low' others high') ts r s h k gr gs =
+    choices_agree low low' elements others high high' ts r s h k gr gs
 
 -- ---- statements
 
@@ -275,7 +324,7 @@ atom_wider a ts r (mid, e, h) = (mid, e, arguments_wider a.args mid r h)
 
 head_wider : (head : Head) (ts r : List Token) → HeadAt head ts r → WideHeadAt head ts r
 head_wider (Disj atoms) ts r h = joined_wider is_or atom_wider atoms ts r h
-head_wider (Choice elements) ts r h = h
+head_wider (Choice low elements high) ts r h = h
 
 -- a statement is a rule of atoms that may have intervals, or a constraint
 wide_statement : (r : Rule) (ts rest : List Token) → StatementAt r ts rest → WideRuleAt r ts rest ⊎ ConstraintAt r ts rest
@@ -293,14 +342,9 @@ abbrev is_arrow : Token → Bool
 is_arrow ArrowToken = true
 is_arrow other = false
 
-disjunction_no_arrow : (atoms : List Atom) (ts r : List Token) → JoinedAt is_or WideAtomAt atoms ts r → begins is_arrow ts ≡ false
-disjunction_no_arrow [] ts r h = absurd h
-disjunction_no_arrow (a ∷ []) ts r (mid, e, args) = ap (begins is_arrow) e
-disjunction_no_arrow (a ∷ b ∷ more) ts r (sign, next, j, (mid, e, args), others) = ap (begins is_arrow) e
-
 head_no_arrow : (head : Head) (ts r : List Token) → WideHeadAt head ts r → begins is_arrow ts ≡ false
-head_no_arrow (Disj atoms) ts r h = disjunction_no_arrow atoms ts r h
-head_no_arrow (Choice elements) ts r (mid, e, h) = ap (begins is_arrow) e
+head_no_arrow (Disj atoms) ts r h = disjunction_begins is_arrow (λ n. refl) refl atoms ts r h
+head_no_arrow (Choice low elements high) ts r (mid, closed, l, h, u) = low_begins is_arrow false (λ x. refl) refl low ts mid l
 
 rule_and_constraint : {A : Type 0} (q r : Rule) (ts t u : List Token) → WideRuleAt q ts t → ConstraintAt r ts u → A
 rule_and_constraint q r ts t u (mid, head, body) (next, eh, e, h) = clash (sym (head_no_arrow q.head ts mid head) ∙ ap (begins is_arrow) e)

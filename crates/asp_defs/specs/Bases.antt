@@ -43,7 +43,7 @@ element_predicates e = atom_predicate e.atom ∷ flat_map literal_predicates e.c
 
 abbrev pub head_predicates : Head → List Predicate
 head_predicates (Disj atoms) = map atom_predicate atoms
-head_predicates (Choice elements) = flat_map element_predicates elements
+head_predicates (Choice low elements high) = flat_map element_predicates elements
 
 abbrev pub rule_predicates : Rule → List Predicate
 rule_predicates r = head_predicates r.head ++ flat_map literal_predicates r.body

@@ -1,5 +1,5 @@
 -- The canonical text of a program (of this project). All definitions are transparent.
-use Rattle.std.specs.Prelude.{ℕ, List, [], ◌∷◌, ◌++◌, codes}
+use Rattle.std.specs.Prelude.{ℕ, ℤ, List, [], ◌∷◌, ◌++◌, codes, Option, None, Some}
 use Rattle.std.specs.List.{flat_map, join_by}
 use Rattle.std.specs.Fmt.{signed_decimal}
 use Rattle.asp_defs.specs.declared.syntax.Op.{Op}
@@ -59,9 +59,19 @@ behind_sign sign (l ∷ body) = sign ++ literals_text (l ∷ body)
 abbrev pub element_text : Element → List ℕ
 element_text e = atom_text e.atom ++ behind_sign (codes " : ") e.cond
 
+-- the bounds of a choice, with a blank between a bound and the brace
+abbrev pub low_text : Option ℤ → List ℕ
+low_text None = []
+low_text (Some x) = signed_decimal x ++ codes " "
+
+abbrev pub high_text : Option ℤ → List ℕ
+high_text None = []
+high_text (Some x) = codes " " ++ signed_decimal x
+
 abbrev pub head_text : Head → List ℕ
 head_text (Disj atoms) = join_by atom_text (codes " | ") atoms
-head_text (Choice elements) = codes "{" ++ join_by element_text (codes "; ") elements ++ codes "}"
+head_text (Choice low elements high) =
+    low_text low ++ codes "{" ++ join_by element_text (codes "; ") elements ++ codes "}" ++ high_text high
 
 -- a rule with a head, and a constraint, which has its arrow also where it has no literals
 abbrev pub headed_text : Head → List Literal → List ℕ
@@ -70,7 +80,7 @@ headed_text head body = head_text head ++ behind_sign (codes " :- ") body
 abbrev pub statement_text : Head → List Literal → List ℕ
 statement_text (Disj []) body = codes ":- " ++ literals_text body
 statement_text (Disj (a ∷ atoms)) body = headed_text (Disj (a ∷ atoms)) body
-statement_text (Choice elements) body = headed_text (Choice elements) body
+statement_text (Choice low elements high) body = headed_text (Choice low elements high) body
 
 -- a rule's line
 abbrev pub rule_line : Rule → List ℕ

@@ -82,7 +82,7 @@ element_constants e = atom_constants e.atom ++ flat_map literal_constants e.cond
 
 abbrev pub head_constants : Head → List Const
 head_constants (Disj atoms) = flat_map atom_constants atoms
-head_constants (Choice elements) = flat_map element_constants elements
+head_constants (Choice low elements high) = flat_map element_constants elements
 
 abbrev pub rule_constants : Rule → List Const
 rule_constants r = head_constants r.head ++ flat_map literal_constants r.body

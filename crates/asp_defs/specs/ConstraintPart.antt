@@ -13,7 +13,7 @@ use Rattle.asp_defs.specs.Safety.{shown_number}
 -- whether a head is that of a constraint: a disjunction of no atoms
 abbrev pub is_no_head : Head → Bool
 is_no_head (Disj atoms) = is_empty atoms
-is_no_head (Choice elements) = false
+is_no_head (Choice low elements high) = false
 
 abbrev pub is_constraint : Rule → Bool
 is_constraint r = is_no_head r.head

@@ -1,5 +1,5 @@
 -- Small programs, each written above as a text, for the worked examples of the definitions. All are transparent.
-use Rattle.std.specs.Prelude.{ℕ, pos, negsuc, Bool, true, false, List, [], ◌∷◌, codes}
+use Rattle.std.specs.Prelude.{ℕ, ℤ, pos, negsuc, Bool, true, false, List, [], ◌∷◌, Option, None, codes}
 use Rattle.asp_defs.specs.declared.syntax.Quant.TheVariants.{Exists, Forall}
 use Rattle.asp_defs.specs.declared.syntax.Op.TheVariants.{Eq, Gt, Ne}
 use Rattle.asp_defs.specs.declared.syntax.Term.{Term}
@@ -17,7 +17,8 @@ use Rattle.asp_defs.specs.declared.faults.Kind.{Kind}
 use Rattle.asp_defs.specs.declared.faults.Unknown.{Unknown}
 use Rattle.asp_defs.specs.Games.{game_of}
 use Rattle.asp_defs.specs.Entries.{Entry}
-use Rattle.asp_defs.specs.Unknowns.{Evidence}
+use Rattle.asp_defs.specs.Words.{Tuning}
+use Rattle.asp_defs.specs.Shown.{Evidence}
 
 -- an atom with its arguments, and one without
 abbrev pub atom : List ℕ → List Term → Atom
@@ -37,7 +38,11 @@ abbrev pub element : Atom → List Literal → Element
 element chosen cond = record { atom = chosen; cond = cond }
 
 abbrev pub choice : List Element → List Literal → Rule
-choice elements body = record { head = Choice elements; body = body }
+choice elements body = record { head = Choice None elements None; body = body }
+
+-- a choice between two bounds
+abbrev pub bounded : Option ℤ → List Element → Option ℤ → List Literal → Rule
+bounded low elements high body = record { head = Choice low elements high; body = body }
 
 -- levels and a program
 abbrev pub exists : List Rule → Part
@@ -225,6 +230,13 @@ duel_half_won =
 abbrev pub duel_refuted : List Entry
 duel_refuted = entry 3 (literal 0 false ∷ literal 1 true ∷ []) false (1 ∷ []) ∷ entry 2 (literal 0 false ∷ []) false [] ∷ []
 
+-- a verdict of the first level, and a set of it, which nothing justifies
+abbrev pub bare_verdict : List Entry
+bare_verdict = entry 1 [] true [] ∷ []
+
+abbrev pub bare_set : List Entry
+bare_set = entry 2 (literal 0 true ∷ []) true (0 ∷ []) ∷ []
+
 -- minimax, where b stands in a rule of the first level alone: the second level is won after a and b, by a cube with these
 -- literals
 abbrev pub minimax_won : List Lit → List Entry
@@ -247,3 +259,7 @@ evidence history allowed = record {
   checks = 0 ∷ 1 ∷ [];
   refusals = 0 ∷ 2 ∷ 0 ∷ [];
 }
+
+-- a tuning with the budget of that run
+abbrev pub tuning : Tuning
+tuning = record { budget = 2; cells = 9; teams = 1 ∷ [] }

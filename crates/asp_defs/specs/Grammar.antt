@@ -1,7 +1,7 @@
 -- The grammar: which tokens are which program (of this project, in the form that ASP systems share). Each production is
 -- a relation between a part of a program, the tokens that begin with it, and the tokens that follow it. All definitions
 -- are transparent.
-use Rattle.std.specs.Prelude.{ℕ, ◌≡◌, ◌⊎◌, Bool, true, false, not, IsTrue, List, [], ◌∷◌, ◌++◌, length, codes, Ok}
+use Rattle.std.specs.Prelude.{ℕ, ℤ, ◌≡◌, ◌⊎◌, Bool, true, false, not, IsTrue, List, [], ◌∷◌, ◌++◌, length, codes, Option, None, Some, Ok}
 use Rattle.std.specs.List.{flat_map}
 use Rattle.asp_defs.specs.declared.syntax.Quant.{Quant}
 use Rattle.asp_defs.specs.declared.syntax.Quant.TheVariants.{Exists, Forall}
@@ -19,7 +19,7 @@ use Rattle.asp_defs.specs.declared.syntax.Rule.{Rule}
 use Rattle.asp_defs.specs.declared.syntax.Part.{Part}
 use Rattle.asp_defs.specs.declared.syntax.Program.{Program}
 use Rattle.asp_defs.specs.Lists.{is_empty, numbers_from}
-use Rattle.asp_defs.specs.Tokens.{Token, Placed, tokens_of, without_places, DirectiveToken, NotToken, NameToken, VariableToken, AnonymousToken, NumberToken, ArrowToken, ColonToken, DotToken, DotsToken, CommaToken, SemicolonToken, BarToken, LeftParenToken, RightParenToken, LeftBraceToken, RightBraceToken, EqToken, NeToken, NeAngleToken, LtToken, LeToken, GtToken, GeToken}
+use Rattle.asp_defs.specs.Tokens.{Token, Placed, tokens_of, without_places, DirectiveToken, NotToken, NameToken, VariableToken, AnonymousToken, NumberToken, MinusToken, ArrowToken, ColonToken, DotToken, DotsToken, CommaToken, SemicolonToken, BarToken, LeftParenToken, RightParenToken, LeftBraceToken, RightBraceToken, EqToken, NeToken, NeAngleToken, LtToken, LeToken, GtToken, GeToken}
 
 -- a production: the tokens begin with a form of the part, and the rest follows it
 abbrev pub Production : Type 0 → Type 1
@@ -78,9 +78,15 @@ ArgumentsAt At args ts rest =
     ((args ≡ []) × (ts ≡ rest))
     ⊎ ((mid : List Token) × (ts ≡ LeftParenToken ∷ mid) × AnyJoinedAt is_comma At args mid (RightParenToken ∷ rest))
 
--- an atom whose arguments have a given form: a name and the arguments
+-- the name of an atom: a name, or a minus and a name, which together are the name
+abbrev pub PredicateAt : Production (List ℕ)
+PredicateAt name ts rest =
+    (ts ≡ NameToken name ∷ rest)
+    ⊎ ((bare : List ℕ) × (name ≡ codes "-" ++ bare) × (ts ≡ MinusToken ∷ NameToken bare ∷ rest))
+
+-- an atom whose arguments have a given form: its name and the arguments
 abbrev pub AtomWithAt : Production Term → Production Atom
-AtomWithAt At a ts rest = (mid : List Token) × (ts ≡ NameToken a.name ∷ mid) × ArgumentsAt At a.args mid rest
+AtomWithAt At a ts rest = (mid : List Token) × PredicateAt a.name ts mid × ArgumentsAt At a.args mid rest
 
 -- an atom, and the wide atom of a fact
 abbrev pub AtomAt : Production Atom
@@ -120,12 +126,17 @@ SignedBodyAt sign body ts rest =
 abbrev pub ElementAt : Production Element
 ElementAt e ts rest = (mid : List Token) × AtomAt e.atom ts mid × SignedBodyAt ColonToken e.cond mid rest
 
--- a head: atoms of a disjunction, or in braces the elements of a choice
+-- a bound of a choice: a number, or nothing
+abbrev pub BoundAt : Production (Option ℤ)
+BoundAt None ts rest = ts ≡ rest
+BoundAt (Some x) ts rest = ts ≡ NumberToken x ∷ rest
+
+-- a head: atoms of a disjunction, or in braces the elements of a choice, between its bounds
 abbrev pub HeadAt : Production Head
 HeadAt (Disj atoms) ts rest = JoinedAt is_or AtomAt atoms ts rest
-HeadAt (Choice elements) ts rest =
-    (mid : List Token) × (ts ≡ LeftBraceToken ∷ mid)
-    × AnyJoinedAt is_semicolon ElementAt elements mid (RightBraceToken ∷ rest)
+HeadAt (Choice low elements high) ts rest =
+    (mid : List Token) × (closed : List Token) × BoundAt low ts (LeftBraceToken ∷ mid)
+    × AnyJoinedAt is_semicolon ElementAt elements mid (RightBraceToken ∷ closed) × BoundAt high closed rest
 
 -- a fact: a wide atom and a full stop
 abbrev pub FactAt : Production Rule
@@ -163,7 +174,7 @@ element_anonymous e = atom_anonymous e.atom ++ flat_map literal_anonymous e.cond
 
 abbrev pub head_anonymous : Head → List ℕ
 head_anonymous (Disj atoms) = flat_map atom_anonymous atoms
-head_anonymous (Choice elements) = flat_map element_anonymous elements
+head_anonymous (Choice low elements high) = flat_map element_anonymous elements
 
 abbrev pub rule_anonymous : Rule → List ℕ
 rule_anonymous r = head_anonymous r.head ++ flat_map literal_anonymous r.body

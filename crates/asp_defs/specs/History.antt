@@ -19,6 +19,10 @@ abbrev pub is_held_with : List Entry → ℕ → Bool → List ℕ → Bool
 is_held_with H level verdict M =
     list_any (λ e. (e.level == level) && (agrees e.verdict verdict && cube_holds e.cube M)) H
 
+-- whether an entry of level 1 in a list has a verdict
+abbrev pub has_verdict : List Entry → Bool → Bool
+has_verdict H verdict = list_any (λ e. (e.level == 1) && agrees e.verdict verdict) H
+
 -- whether a verdict on an outer move is justified by a list, where the levels from this one on have these quantifiers:
 -- behind the last level by its value, the winning verdict by one move that an entry of the next level with the same
 -- verdict holds, and the other verdict by all moves being so held

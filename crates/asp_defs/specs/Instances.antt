@@ -1,6 +1,6 @@
 -- Instances of rules over a universe, and the ground rules that they give (of this project; Amendola, Ricca and
 -- Truszczynski 2019 instantiate over the Herbrand universe). All definitions are transparent.
-use Rattle.std.specs.Prelude.{ℕ, ◌^◌, ◌==◌, if◌then◌else◌, Bool, true, false, not, List, [], ◌∷◌, ◌++◌, map, length, get_or, replicate}
+use Rattle.std.specs.Prelude.{ℕ, ◌+◌, ◌^◌, ◌==◌, if◌then◌else◌, Bool, true, false, not, ◌||◌, is_some, List, [], ◌∷◌, ◌++◌, map, length, get_or, replicate}
 use Rattle.std.specs.List.{flat_map, filter, list_all, position_or_len, sum_by}
 use Rattle.std.specs.Ordering.{is_eq, is_ne, is_lt, is_le, is_gt, is_ge}
 use Rattle.std.specs.declared.cmp.Ordering.{Ordering}
@@ -91,7 +91,7 @@ element_schema body e = record {
 abbrev pub head_schemas : Head → List Literal → List Schema
 head_schemas (Disj (a ∷ [])) [] = map (λ b. disjunctive_schema (b ∷ []) []) (spread a)
 head_schemas (Disj atoms) body = disjunctive_schema atoms body ∷ []
-head_schemas (Choice elements) body = map (element_schema body) elements
+head_schemas (Choice low elements high) body = map (element_schema body) elements
 
 abbrev pub schemas : Rule → List Schema
 schemas r = head_schemas r.head r.body
@@ -156,6 +156,19 @@ assignments U s = product (replicate (length s.variables) U)
 abbrev pub rule_instances : List GroundAtom → List Const → Rule → List GroundRule
 rule_instances atoms U r = flat_map (λ s. flat_map (instance atoms s) (assignments U s)) (schemas r)
 
--- how many instances a rule has over a universe, before comparisons are looked at
+-- the variables of a body in the order of the text
+abbrev pub body_variables : List Literal → List Term
+body_variables body = first_occurrences (flat_map literal_variables body)
+
+-- whether a head has a bound
+abbrev pub has_bound : Head → Bool
+has_bound (Disj atoms) = false
+has_bound (Choice low elements high) = is_some low || is_some high
+
+-- how many ground bounds a rule has over a universe, before comparisons are looked at
+abbrev pub bound_count : ℕ → Rule → ℕ
+bound_count size r = if has_bound r.head then size ^ length (body_variables r.body) else 0
+
+-- how many instances a rule has over a universe, before comparisons are looked at, its ground bounds among them
 abbrev pub instance_count : ℕ → Rule → ℕ
-instance_count size r = sum_by (λ s. size ^ length s.variables) (schemas r)
+instance_count size r = sum_by (λ s. size ^ length s.variables) (schemas r) + bound_count size r

@@ -1,39 +1,55 @@
 -- Laws of the definitions, each the contract of a function of `src/laws.rt`. All are transparent.
-use Rattle.std.specs.Prelude.{ℕ, ◌+◌, ◌-◌, ◌≡◌, ◌<◌, ◌≤◌, ◌↔◌, Bool, true, false, not, ◌&&◌, List, [], ◌∷◌, ◌++◌, length, Some}
+use Rattle.std.specs.Prelude.{ℕ, ◌+◌, ◌-◌, ◌≡◌, ◌<◌, ◌≤◌, ◌↔◌, Bool, true, false, not, ◌&&◌, List, [], ◌∷◌, ◌++◌, length, Some, Ok}
 use Rattle.std.specs.List.{list_all}
 use Rattle.asp_defs.specs.declared.ground.GroundRule.{GroundRule}
+use Rattle.asp_defs.specs.declared.ground.Bound.{Bound}
 use Rattle.asp_defs.specs.declared.ground.Game.{Game}
+use Rattle.asp_defs.specs.declared.syntax.Program.{Program}
 use Rattle.asp_defs.specs.Lists.{IsIn}
 use Rattle.asp_defs.specs.Interpretations.{holds, subsets, proper_subsets}
 use Rattle.asp_defs.specs.Truth.{is_model}
-use Rattle.asp_defs.specs.AnswerSets.{is_answer_set}
+use Rattle.asp_defs.specs.Bounds.{meets, meets_all, bound_atoms}
+use Rattle.asp_defs.specs.AnswerSets.{is_bounded_answer_set}
 use Rattle.asp_defs.specs.Unfounded.{is_unfounded}
-use Rattle.asp_defs.specs.Games.{level_count, base, rules_of, ascends, is_subset, IsValid}
+use Rattle.asp_defs.specs.Games.{game_of, level_count, base, rules_of, ascends, is_subset, IsValid}
 use Rattle.asp_defs.specs.Pages.{comes_after}
 use Rattle.asp_defs.specs.Values.{moves, value, is_coherent}
 use Rattle.asp_defs.specs.Entries.{Entry, stands_from}
 use Rattle.asp_defs.specs.History.{is_held_with, is_justified, is_sound, is_legal, cells}
 use Rattle.asp_defs.specs.Machine.{State, Event, start, member, step, may_run, run}
 use Rattle.asp_defs.specs.Unknowns.{enough_cells}
+use Rattle.asp_defs.specs.Sizes.{IsAccepted}
+use Rattle.asp_defs.specs.Words.{Tuning, SolveTask, task_of_words}
+use Rattle.asp_defs.specs.Runs.{accepted_ending}
+use Rattle.asp_defs.specs.Shown.{Evidence, shows_verdict, shows_set, IsEvidence}
 
--- an answer set satisfies the rules
+-- an answer set satisfies the rules and meets the bounds
 abbrev pub AnswerSetsAreModels : Type 0
-AnswerSetsAreModels = (G : List GroundRule) (I : List ℕ) → is_answer_set G I ≡ true → is_model I G ≡ true
+AnswerSetsAreModels =
+    (G : List GroundRule) (bounds : List Bound) (I : List ℕ) → is_bounded_answer_set G bounds I ≡ true
+    → (is_model I G ≡ true) × (meets_all I bounds ≡ true)
 
 -- no answer set of a program without choices is a proper subset of another
 abbrev pub AnswerSetsAreMinimal : Type 0
 AnswerSetsAreMinimal =
-    (G : List GroundRule) (I J : List ℕ) → list_all (λ r. not r.choice) G ≡ true → is_answer_set G I ≡ true
-    → is_answer_set G J ≡ true → ¬ IsIn J (proper_subsets I)
+    (G : List GroundRule) (bounds : List Bound) (I J : List ℕ) → list_all (λ r. not r.choice) G ≡ true
+    → is_bounded_answer_set G bounds I ≡ true → is_bounded_answer_set G bounds J ≡ true → ¬ IsIn J (proper_subsets I)
 
--- an interpretation is an answer set exactly where it satisfies the rules and none of its subsets but the empty one is
--- unfounded in it
+-- an interpretation is an answer set exactly where it satisfies the rules, meets the bounds, and none of its subsets but
+-- the empty one is unfounded in it
 abbrev pub AnswerSetsAreFounded : Type 0
 AnswerSetsAreFounded =
-    (G : List GroundRule) (I : List ℕ) → ascends I ≡ true
-    → (is_answer_set G I ≡ true)
+    (G : List GroundRule) (bounds : List Bound) (I : List ℕ) → ascends I ≡ true
+    → (is_bounded_answer_set G bounds I ≡ true)
     ↔ ((is_model I G ≡ true)
+    × (meets_all I bounds ≡ true)
     × ((a : ℕ) (U : List ℕ) → IsIn (a ∷ U) (subsets I) → is_unfounded G I (a ∷ U) ≡ false))
+
+-- whether an interpretation meets a bound rests on the bound's atoms alone
+abbrev pub BoundsRestOnTheirAtoms : Type 0
+BoundsRestOnTheirAtoms =
+    (b : Bound) (I J : List ℕ) → ascends I ≡ true → ascends J ≡ true
+    → ((a : ℕ) → holds (bound_atoms b) a ≡ true → holds I a ≡ holds J a) → meets I b ≡ meets J b
 
 -- what a list justifies, every longer list that begins with it justifies
 abbrev pub JustificationsStay : Type 0
@@ -70,9 +86,9 @@ ConstraintsDecide =
     (g : Game) (M : List ℕ) → IsValid g → IsIn M (subsets (base g (level_count g)))
     → value g (level_count g + 1) M ≡ is_model M (rules_of g (level_count g + 1))
 
--- outer moves that agree on the atoms that stand in a rule of their level or of a later one have the same value
-abbrev pub ValuesRestOnRules : Type 0
-ValuesRestOnRules =
+-- outer moves that agree on the atoms that stand in a rule or bound of their level or of a later one have the same value
+abbrev pub ValuesRestOnRulesAndBounds : Type 0
+ValuesRestOnRulesAndBounds =
     (g : Game) (i : ℕ) (M N : List ℕ) → IsValid g → 1 ≤ i → i ≤ level_count g + 1 → IsIn M (subsets (base g (i - 1)))
     → IsIn N (subsets (base g (i - 1))) → ((a : ℕ) → stands_from g i a ≡ true → holds M a ≡ holds N a)
     → value g i M ≡ value g i N
@@ -142,3 +158,19 @@ abbrev pub StepsKeepWhatWasSeen : Type 0
 StepsKeepWhatWasSeen =
     (allowed : ℕ) (s : State) (event : Event)
     → ((m : ℕ) → (member s m).seen ≤ length s.history) → IsLater s (step allowed s event)
+
+-- what evidence of a valid game shows is right: a verdict is the game's value, and a set has the value true at level 2
+abbrev pub ShownVerdictsAreRight : Type 0
+ShownVerdictsAreRight =
+    (used : Evidence) (verdict : Bool) → IsValid used.game → shows_verdict used verdict ≡ true → is_coherent used.game ≡ verdict
+
+abbrev pub ShownSetsAreRight : Type 0
+ShownSetsAreRight =
+    (used : Evidence) (N : List ℕ) → IsIn N (subsets (base used.game 1)) → shows_set used N ≡ true → value used.game 2 N ≡ true
+
+-- where a text's game is valid, there is evidence for what `solve` without a log says of it
+abbrev pub VerdictsHaveEvidence : Type 0
+VerdictsHaveEvidence =
+    (words : List (List ℕ)) (bytes : List ℕ) (tuning : Tuning) (p : Program)
+    → task_of_words words ≡ Ok (SolveTask tuning false) → IsAccepted bytes p → IsValid (game_of p)
+    → (used : Evidence) × IsEvidence words bytes (accepted_ending (SolveTask tuning false) p) used

@@ -1,6 +1,7 @@
 pub mod Lists
 pub mod Interpretations
 pub mod Truth
+pub mod Bounds
 pub mod Reduct
 pub mod AnswerSets
 pub mod Tokens
@@ -9,6 +10,8 @@ pub mod TextRefusals
 pub mod Constants
 pub mod Bases
 pub mod Instances
+pub mod BoundInstances
+pub mod Consistency
 pub mod Games
 pub mod Unfounded
 pub mod Values
@@ -18,6 +21,7 @@ pub mod History
 pub mod Machine
 pub mod Unknowns
 pub mod Examples
+pub mod BoundExamples
 pub mod Safety
 pub mod ConstraintPart
 pub mod Limits
@@ -30,6 +34,8 @@ pub mod Sets
 pub mod LogText
 pub mod Sizes
 pub mod Runs
+pub mod Shown
 pub mod TextExamples
 pub mod Laws
 pub mod TextLaws
+pub mod RunLaws

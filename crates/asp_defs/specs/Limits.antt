@@ -47,7 +47,7 @@ element_atoms e = e.atom ∷ flat_map literal_atoms e.cond
 
 abbrev pub head_atoms : Head → List Atom
 head_atoms (Disj atoms) = atoms
-head_atoms (Choice elements) = flat_map element_atoms elements
+head_atoms (Choice low elements high) = flat_map element_atoms elements
 
 abbrev pub rule_atoms : Rule → List Atom
 rule_atoms r = head_atoms r.head ++ flat_map literal_atoms r.body
@@ -55,7 +55,7 @@ rule_atoms r = head_atoms r.head ++ flat_map literal_atoms r.body
 -- the literals of a head: each atom or element counts as one, and each literal of a condition
 abbrev pub head_literals : Head → ℕ
 head_literals (Disj atoms) = length atoms
-head_literals (Choice elements) = sum_by (λ (e : Element). 1 + length e.cond) elements
+head_literals (Choice low elements high) = sum_by (λ (e : Element). 1 + length e.cond) elements
 
 -- the literals of a rule: those of its head and its body's
 abbrev pub rule_literals : Rule → ℕ

@@ -1,7 +1,5 @@
 -- The lines that a run prints, each with its line feed (of this project). All definitions are transparent.
 use Rattle.std.specs.Prelude.{ℕ, List, [], ◌∷◌, ◌++◌, codes, decimal}
-use Rattle.asp_defs.specs.declared.faults.Form.{Form}
-use Rattle.asp_defs.specs.declared.faults.Form.TheVariants.{Strong, Bounds}
 use Rattle.asp_defs.specs.declared.faults.TextFault.{TextFault}
 use Rattle.asp_defs.specs.declared.faults.TextFault.TheVariants as text
 use Rattle.asp_defs.specs.declared.faults.Var.{Var}
@@ -29,11 +27,7 @@ word_line number = fault_line (codes "word " ++ decimal number ++ codes " refuse
 abbrev pub at_place : List ℕ → ℕ → List ℕ
 at_place text place = fault_line (text ++ codes " at " ++ decimal place)
 
-abbrev pub form_text : Form → List ℕ
-form_text Strong = codes "strong negation"
-form_text Bounds = codes "choice bounds"
-
--- the line of a refused text; want of memory has none
+-- the line of a refused text; out of memory has none
 abbrev pub text_fault_line : TextFault → List ℕ
 text_fault_line (text.BadByte place) = at_place (codes "bad byte") place
 text_fault_line (text.BadNumber place) = at_place (codes "bad number") place
@@ -43,7 +37,6 @@ text_fault_line text.Unfinished = fault_line (codes "unfinished")
 text_fault_line (text.UnknownDirective place) = at_place (codes "unknown directive") place
 text_fault_line (text.BeforeLevel place) = at_place (codes "before a level") place
 text_fault_line (text.AfterConstraint place) = at_place (codes "after the constraint part") place
-text_fault_line (text.NotYet place form) = at_place (codes "not yet: " ++ form_text form) place
 text_fault_line (text.Unexpected place) = at_place (codes "unexpected") place
 text_fault_line text.NoMemory = []
 

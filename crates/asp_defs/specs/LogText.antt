@@ -1,4 +1,4 @@
--- The text of a log, version 1, and which bytes are one (of this project). All definitions are transparent.
+-- The text of a log, version 2, and which bytes are one (of this project). All definitions are transparent.
 use Rattle.std.specs.Prelude.{ℕ, ◌+◌, ◌-◌, ◌≡◌, ◌⊎◌, Bool, true, false, ◌==◌, ◌&&◌, nat_le, IsTrue, List, [], ◌∷◌, ◌++◌, length, map, get_or, codes, decimal}
 use Rattle.std.specs.List.{flat_map, list_all, join_by}
 use Rattle.asp_defs.specs.declared.ground.Lit.{Lit}
@@ -33,7 +33,7 @@ entry_line bases e =
 
 -- the first and the last line of a log
 abbrev pub log_header : List ℕ
-log_header = line (codes "ASPQ-LOG 1")
+log_header = line (codes "ASPQ-LOG 2")
 
 abbrev pub log_last : ℕ → List ℕ
 log_last count = line (codes "LOG " ++ decimal count)

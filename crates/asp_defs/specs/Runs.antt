@@ -1,7 +1,6 @@
 -- What a run of the program may say: its exit code and its output, by the words and the bytes of the text, in the order
 -- in which refusals come (of this project). All definitions are transparent.
-use Rattle.std.specs.Prelude.{ℕ, ◌≡◌, ◌<◌, ◌⊎◌, Bool, true, false, ◌==◌, ◌&&◌, ◌||◌, is_none, IsTrue, List, [], ◌∷◌, ◌++◌, length, take, Option, None, Some, Ok, Err}
-use Rattle.std.specs.List.{list_any}
+use Rattle.std.specs.Prelude.{ℕ, ◌+◌, ◌≡◌, ◌<◌, ◌⊎◌, Bool, true, false, ◌==◌, ◌||◌, is_none, IsTrue, List, [], ◌∷◌, ◌++◌, length, take, Option, None, Some, Ok, Err}
 use Rattle.asp_defs.specs.declared.faults.TextFault.{TextFault}
 use Rattle.asp_defs.specs.declared.faults.Unknown.{Unknown}
 use Rattle.asp_defs.specs.declared.faults.Which.{Which}
@@ -14,14 +13,14 @@ use Rattle.asp_defs.specs.Games.{game_of}
 use Rattle.asp_defs.specs.Values.{is_coherent}
 use Rattle.asp_defs.specs.Pages.{Page, page_of}
 use Rattle.asp_defs.specs.Entries.{Entry}
-use Rattle.asp_defs.specs.History.{agrees, is_legal}
+use Rattle.asp_defs.specs.History.{has_verdict, is_legal}
 use Rattle.asp_defs.specs.Unknowns.{is_possible}
 use Rattle.asp_defs.specs.Grammar.{IsText}
 use Rattle.asp_defs.specs.TextRefusals.{IsRefused}
 use Rattle.asp_defs.specs.Checks.{CheckRefusal, check_refusal}
 use Rattle.asp_defs.specs.Limits.{limit}
 use Rattle.asp_defs.specs.Sizes.{game_too_large, IsAccepted}
-use Rattle.asp_defs.specs.Words.{Tuning, Task, SolveTask, ListTask, CheckTask, DemoTask, task_of_words}
+use Rattle.asp_defs.specs.Words.{Tuning, Task, SolveTask, ListTask, CheckTask, DemoTask, tuning_of, task_of_words}
 use Rattle.asp_defs.specs.Lines.{word_line, text_fault_line, too_large_line, check_refusal_line, universal_first_line, after_refused_line, unknown_line}
 use Rattle.asp_defs.specs.Canonical.{program_text}
 use Rattle.asp_defs.specs.Sets.{UnknownEnd, end_of, set_of_text, list_text, page_text, verdict_line, demo_head, demo_end}
@@ -33,14 +32,21 @@ pub record Ending : Type 0 where
   pub code : ℕ
   pub output : List ℕ
 
--- the ending of a refused text
+-- the ending of a refused word, by its number from 1, and that of a refused text
+abbrev pub word_ending : ℕ → Ending
+word_ending number = record { code = 2; output = word_line number }
+
 abbrev pub refusal : List ℕ → Ending
 refusal text = record { code = 3; output = text }
+
+-- reading stops behind so many bytes, one more than a text may have
+abbrev pub most_read : ℕ
+most_read = limit Bytes + 1
 
 -- a text is refused, for the first of these reasons: it is too long, it is no text of a program, a check fails, or the
 -- program's game is too large
 pub data TextRefusal (bytes : List ℕ) (ending : Ending) : Type 0 where
-  TooLong : limit Bytes < length bytes → ending ≡ refusal (too_large_line Bytes 1048577) → TextRefusal bytes ending
+  TooLong : limit Bytes < length bytes → ending ≡ refusal (too_large_line Bytes most_read) → TextRefusal bytes ending
   NoText : (fault : TextFault) → (limit Bytes < length bytes → ⊥) → IsRefused bytes fault
       → ending ≡ refusal (text_fault_line fault) → TextRefusal bytes ending
   FailedCheck : (p : Program) (why : CheckRefusal) → (limit Bytes < length bytes → ⊥) → IsText bytes p
@@ -91,6 +97,13 @@ accepted_ending (DemoTask n) p =
     let page = page_of (game_of p) None 1
     in record { code = page_code true page.sets; output = demo_head n (demo_text n) (game_of p).bases ++ demo_end page.sets (end_of page) }
 
+-- whether a command works on the bytes that are read; `demo` makes its own text and reads none
+abbrev pub reads_bytes : Task → Bool
+reads_bytes (SolveTask tuning log) = true
+reads_bytes (ListTask tuning count word) = true
+reads_bytes CheckTask = true
+reads_bytes (DemoTask n) = false
+
 -- the text that a command works on: the bytes that are read, and for `demo` the text that it makes
 abbrev pub text_of_task : Task → List ℕ → List ℕ
 text_of_task (SolveTask tuning log) bytes = bytes
@@ -107,13 +120,10 @@ TaskEnds task bytes ending =
 -- a run of words over bytes may end so, where no budget is spent and no log is asked for: refused words come first
 abbrev pub WordsEnd : List (List ℕ) → List ℕ → Ending → Type 0
 WordsEnd words bytes ending =
-    ((number : ℕ) × (task_of_words words ≡ Err number) × (ending ≡ record { code = 2; output = word_line number }))
+    ((number : ℕ) × (task_of_words words ≡ Err number) × (ending ≡ word_ending number))
     ⊎ ((task : Task) × (task_of_words words ≡ Ok task) × TaskEnds task bytes ending)
 
 -- with the log asked for, a verdict is followed by the log of a legal history that has it at level 1
-abbrev pub has_verdict : List Entry → Bool → Bool
-has_verdict H verdict = list_any (λ e. (e.level == 1) && agrees e.verdict verdict) H
-
 pub record LogEnds (words : List (List ℕ)) (bytes : List ℕ) (ending : Ending) : Type 0 where
   pub tuning : Tuning
   pub program : Program
@@ -149,13 +159,13 @@ abbrev pub budget_of : Task → ℕ
 budget_of (SolveTask tuning log) = tuning.budget
 budget_of (ListTask tuning count word) = tuning.budget
 budget_of CheckTask = 0
-budget_of (DemoTask n) = 10000000
+budget_of (DemoTask n) = (tuning_of []).budget
 
 abbrev pub cells_of : Task → ℕ
 cells_of (SolveTask tuning log) = tuning.cells
 cells_of (ListTask tuning count word) = tuning.cells
 cells_of CheckTask = 0
-cells_of (DemoTask n) = 20000000
+cells_of (DemoTask n) = (tuning_of []).cells
 
 pub record OpenEnds (words : List (List ℕ)) (bytes : List ℕ) (ending : Ending) : Type 0 where
   pub task : Task

@@ -23,7 +23,7 @@ element_variables e = atom_variables e.atom ++ flat_map literal_variables e.cond
 
 abbrev pub head_variables : Head → List Term
 head_variables (Disj atoms) = flat_map atom_variables atoms
-head_variables (Choice elements) = flat_map element_variables elements
+head_variables (Choice low elements high) = flat_map element_variables elements
 
 abbrev pub rule_variables : Rule → List Term
 rule_variables r = head_variables r.head ++ flat_map literal_variables r.body
@@ -75,7 +75,7 @@ unbound body vs = let safe = safe_variables body in filter (λ v. not (is_variab
 -- the element's condition together don't bind
 abbrev pub head_unsafe : List Literal → Head → List Term
 head_unsafe body (Disj atoms) = unbound body (flat_map atom_variables atoms)
-head_unsafe body (Choice elements) =
+head_unsafe body (Choice low elements high) =
     flat_map (λ (e : Element). unbound (body ++ e.cond) (element_variables e)) elements
 
 -- the unsafe variables of a rule: those of its head, and those of the body that the body doesn't bind

@@ -1,5 +1,5 @@
 -- Small texts and the programs that they are, for the worked examples of the definitions of texts. All are transparent.
-use Rattle.std.specs.Prelude.{ℕ, pos, negsuc, true, false, List, [], ◌∷◌, codes, replicate}
+use Rattle.std.specs.Prelude.{ℕ, pos, negsuc, true, false, List, [], ◌∷◌, codes, replicate, None, Some}
 use Rattle.asp_defs.specs.declared.syntax.Op.TheVariants.{Eq, Ne}
 use Rattle.asp_defs.specs.declared.syntax.Term.{Term}
 use Rattle.asp_defs.specs.declared.syntax.Term.TheVariants.{Int, Var, Anon, Range}
@@ -92,6 +92,39 @@ two_entries = ex.entry 2 [] true [] ∷ ex.entry 1 [] true [] ∷ []
 
 abbrev pub cube_entry : Entry
 cube_entry = ex.entry 2 (ex.literal 0 false ∷ ex.literal 1 true ∷ []) false (1 ∷ [])
+
+-- a text with a negated fact, head and body atom, and a negative number, and its program
+abbrev pub strong_text : List ℕ
+strong_text = codes "%@exists -p(1..2). - a:-not -b,p(-5)."
+
+abbrev pub strong_fact : Rule
+strong_fact = ex.rule (ex.at (codes "-p") (Range (pos 1) (pos 2)) ∷ []) []
+
+abbrev pub strong_rule : Rule
+strong_rule =
+    ex.rule (ex.prop (codes "-a") ∷ [])
+    (Neg (ex.prop (codes "-b")) ∷ Pos (ex.at (codes "p") (Int (negsuc 4))) ∷ [])
+
+abbrev pub strong_program : Program
+strong_program = ex.program (ex.exists (strong_fact ∷ strong_rule ∷ []) ∷ []) []
+
+-- a text with choices that have both bounds, an upper one and a lower one, and its program
+abbrev pub bounded_text : List ℕ
+bounded_text = codes "%@exists 1{a;-b}2:-c. {a}-1. 0 {b}."
+
+abbrev pub both_bounds : Rule
+both_bounds =
+    ex.bounded (Some (pos 1)) (ex.element ex.a [] ∷ ex.element (ex.prop (codes "-b")) [] ∷ []) (Some (pos 2))
+    (Pos ex.c ∷ [])
+
+abbrev pub upper_bound : Rule
+upper_bound = ex.bounded None (ex.element ex.a [] ∷ []) (Some (negsuc 0)) []
+
+abbrev pub lower_bound : Rule
+lower_bound = ex.bounded (Some (pos 0)) (ex.element ex.b [] ∷ []) None []
+
+abbrev pub bounded_program : Program
+bounded_program = ex.program (ex.exists (both_bounds ∷ upper_bound ∷ lower_bound ∷ []) ∷ []) []
 
 -- a text with an interval, two nameless variables and a constraint without literals, and its program
 abbrev pub nameless_text : List ℕ

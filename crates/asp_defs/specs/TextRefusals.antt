@@ -3,10 +3,9 @@
 use Rattle.std.specs.Prelude.{ℕ, ◌≡◌, ◌⊎◌, Bool, true, false, not, if◌then◌else◌, List, [], ◌∷◌, ◌++◌, codes, Ok, Err, bytes_eq}
 use Rattle.std.specs.List.{list_any}
 use Rattle.asp_defs.specs.declared.syntax.Program.{Program}
-use Rattle.asp_defs.specs.declared.faults.Form.TheVariants.{Strong, Bounds}
 use Rattle.asp_defs.specs.declared.faults.TextFault.{TextFault}
-use Rattle.asp_defs.specs.declared.faults.TextFault.TheVariants.{NoLevel, Unfinished, UnknownDirective, BeforeLevel, AfterConstraint, NotYet, Unexpected}
-use Rattle.asp_defs.specs.Tokens.{Token, Placed, tokens_of, without_places, DirectiveToken, NotToken, NumberToken, MinusToken, ArrowToken, ColonToken, DotToken, CommaToken, SemicolonToken, BarToken, LeftParenToken, RightParenToken, LeftBraceToken, RightBraceToken}
+use Rattle.asp_defs.specs.declared.faults.TextFault.TheVariants.{NoLevel, Unfinished, UnknownDirective, BeforeLevel, AfterConstraint, Unexpected}
+use Rattle.asp_defs.specs.Tokens.{Token, Placed, tokens_of, without_places, DirectiveToken, DotToken}
 use Rattle.asp_defs.specs.Grammar.{IsProgram}
 
 -- tokens are viable: they, or tokens that continue them, are a program
@@ -24,49 +23,19 @@ known_words = codes "exists" ∷ codes "forall" ∷ codes "constraint" ∷ []
 abbrev pub is_known_word : List ℕ → Bool
 is_known_word word = list_any (bytes_eq word) known_words
 
--- where a token may stand, by the token before it and by whether that one stands inside parentheses
 -- a statement may begin behind a directive and behind a full stop
 abbrev pub statement_after : Token → Bool
 statement_after (DirectiveToken word) = true
 statement_after DotToken = true
 statement_after other = false
 
--- an atom may begin where a statement may, behind a sign of a disjunction, an opening brace, an arrow, a colon and `not`,
--- and behind a comma that stands outside parentheses
-abbrev pub atom_after : Bool → Token → Bool
-atom_after inside (DirectiveToken word) = true
-atom_after inside DotToken = true
-atom_after inside BarToken = true
-atom_after inside SemicolonToken = true
-atom_after inside LeftBraceToken = true
-atom_after inside ArrowToken = true
-atom_after inside ColonToken = true
-atom_after inside NotToken = true
-atom_after inside CommaToken = not inside
-atom_after inside other = false
-
--- a number may be a bound where a statement may begin, and behind the closing brace of a choice
-abbrev pub bound_after : Token → Bool
-bound_after (DirectiveToken word) = true
-bound_after DotToken = true
-bound_after RightBraceToken = true
-bound_after other = false
-
--- whether the place behind a token is inside parentheses, if the place before it is
-abbrev pub inside_after : Bool → Token → Bool
-inside_after inside LeftParenToken = true
-inside_after inside RightParenToken = false
-inside_after inside other = inside
-
 -- the refusal of a token at a place by the token before it
-abbrev pub refusal_after : Bool → Token → Token → ℕ → TextFault
-refusal_after inside last (DirectiveToken word) place =
+abbrev pub refusal_after : Token → Token → ℕ → TextFault
+refusal_after last (DirectiveToken word) place =
     if not (is_known_word word) then UnknownDirective place
     else if statement_after last then AfterConstraint place
     else Unexpected place
-refusal_after inside last MinusToken place = if atom_after inside last then NotYet place Strong else Unexpected place
-refusal_after inside last (NumberToken x) place = if bound_after last then NotYet place Bounds else Unexpected place
-refusal_after inside last other place = Unexpected place
+refusal_after last other place = Unexpected place
 
 -- the refusal of a first token
 abbrev pub first_refusal : Token → ℕ → TextFault
@@ -74,13 +43,13 @@ first_refusal (DirectiveToken word) place = if is_known_word word then BeforeLev
 first_refusal other place = BeforeLevel place
 
 -- the refusal of a token at a place, by the tokens before it
-abbrev pub refusal_behind : Bool → Token → List Token → Token → ℕ → TextFault
-refusal_behind inside last [] t place = refusal_after inside last t place
-refusal_behind inside last (next ∷ more) t place = refusal_behind (inside_after inside next) next more t place
+abbrev pub refusal_behind : Token → List Token → Token → ℕ → TextFault
+refusal_behind last [] t place = refusal_after last t place
+refusal_behind last (next ∷ more) t place = refusal_behind next more t place
 
 abbrev pub refusal_of : List Token → Token → ℕ → TextFault
 refusal_of [] t place = first_refusal t place
-refusal_of (first ∷ more) t place = refusal_behind false first more t place
+refusal_of (first ∷ more) t place = refusal_behind first more t place
 
 -- a token is the offending one: the tokens before it are viable, and with it they aren't
 pub record Offends (before : List Token) (t : Token) : Type 0 where

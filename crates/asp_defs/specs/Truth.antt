@@ -5,9 +5,13 @@ use Rattle.std.specs.List.{list_any, list_all}
 use Rattle.asp_defs.specs.declared.ground.GroundRule.{GroundRule}
 use Rattle.asp_defs.specs.Interpretations.{holds}
 
--- whether a body is true: its positive atoms are, and its negative atoms aren't
+-- whether literals are all true: the positive atoms are, and the negative ones aren't
+abbrev pub literals_true : List ℕ → List ℕ → List ℕ → Bool
+literals_true I pos neg = list_all (holds I) pos && list_all (λ a. not (holds I a)) neg
+
+-- whether a rule's body is true
 abbrev pub body_true : List ℕ → GroundRule → Bool
-body_true I r = list_all (holds I) r.pos && list_all (λ a. not (holds I a)) r.neg
+body_true I r = literals_true I r.pos r.neg
 
 -- whether a rule is satisfied: its body is false or one of its head atoms is true; a choice always is
 abbrev pub satisfies : List ℕ → GroundRule → Bool

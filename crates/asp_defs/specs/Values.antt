@@ -8,7 +8,7 @@ use Rattle.asp_defs.specs.declared.syntax.Quant.{Quant}
 use Rattle.asp_defs.specs.declared.syntax.Quant.TheVariants.{Exists, Forall}
 use Rattle.asp_defs.specs.Interpretations.{holds}
 use Rattle.asp_defs.specs.AnswerSets.{answer_sets}
-use Rattle.asp_defs.specs.Games.{base, rules_of}
+use Rattle.asp_defs.specs.Games.{base, rules_of, bounds_of}
 use Rattle.asp_defs.specs.Lists.{is_empty}
 
 -- the fact and the denial of an atom
@@ -23,9 +23,9 @@ denial a = record { choice = false; head = []; pos = a ∷ []; neg = [] }
 abbrev pub fix : List ℕ → List ℕ → List GroundRule
 fix B M = map fact M ++ map denial (filter (λ a. not (holds M a)) B)
 
--- the moves of a level after an outer move: the answer sets of the level's rules with the outer move fixed
+-- the moves of a level after an outer move: the answer sets of the level's rules and bounds with the outer move fixed
 abbrev pub moves : Game → ℕ → List ℕ → List (List ℕ)
-moves g i M = answer_sets (rules_of g i ++ fix (base g (i - 1)) M) (base g i)
+moves g i M = answer_sets (rules_of g i ++ fix (base g (i - 1)) M) (bounds_of g i) (base g i)
 
 -- whether a quantifier's claim holds of the moves: of some, or of every one
 abbrev pub claims : Quant → (List ℕ → Bool) → List (List ℕ) → Bool

@@ -12,10 +12,13 @@ ghost use Rattle.asp_defs.specs.Instances.{schemas, op_holds, comparison_true};
 ghost use Rattle.asp_defs.specs.Games.{game_of, rules_of, atoms_ascend};
 ghost use Rattle.asp_defs.specs.Values.{is_coherent, quantified_answer_sets};
 ghost use Rattle.asp_defs.specs.Pages.{page_of};
-ghost use Rattle.asp_defs.specs.Entries.{cube_holds, is_entry, cost};
-ghost use Rattle.asp_defs.specs.History.{is_justified, is_legal};
+ghost use Rattle.asp_defs.specs.Entries.{cube_holds, stands_at, is_entry, cost};
+ghost use Rattle.asp_defs.specs.History.{is_held_with, has_verdict, is_justified, is_legal};
 ghost use Rattle.asp_defs.specs.Machine.{start, may_run, run, Look, Fork, Add, End};
-ghost use Rattle.asp_defs.specs.Unknowns.{enough_cells, is_possible, shows_unknown, shows_verdict, shows_set};
+ghost use Rattle.asp_defs.specs.Unknowns.{enough_cells, is_possible};
+ghost use Rattle.asp_defs.specs.Words.{SolveTask, ListTask, CheckTask};
+ghost use Rattle.asp_defs.specs.Sets.{MoreEnd, LastEnd, UnknownEnd};
+ghost use Rattle.asp_defs.specs.Shown.{shows_unknown, shows_verdict, shows_set, VerdictClaim, OpenClaim, PageClaim, shows, ending_of};
 ghost use Rattle.asp_defs.specs.Examples as ex;
 
 /// A choice may take the atom that a constraint asks for.
@@ -225,6 +228,13 @@ pub fn histories_of_both_kinds()
     ensures refuted { is_legal (game_of ex.duel) ex.duel_refuted ≡ true }
 {}
 
+/// A level has the atoms of its own rules, wherever in a rule they stand.
+pub fn atoms_of_levels()
+    ensures head { map (λ level. stands_at (game_of ex.minimax) level 1) (1 ∷ 2 ∷ 3 ∷ []) ≡ true ∷ false ∷ false ∷ [] }
+    ensures positive { map (λ level. stands_at (game_of ex.minimax) level 2) (1 ∷ 2 ∷ 3 ∷ []) ≡ false ∷ true ∷ true ∷ [] }
+    ensures negative { map (λ level. stands_at (game_of ex.minimax) level 0) (1 ∷ 2 ∷ 3 ∷ []) ≡ true ∷ false ∷ true ∷ [] }
+{}
+
 /// An entry is illegal for an atom of its cube that stands in no rule of its level or of a later one, though all else is
 /// legal.
 pub fn cubes_have_no_strange_atoms()
@@ -262,7 +272,8 @@ pub fn additions()
 {}
 
 /// Evidence shows a spent search of a kind and level that were counted, a full store where one more entry of the fullest size
-/// doesn't fit, a verdict by an entry of level 1, and a set by an entry of level 2 with the verdict true.
+/// doesn't fit, a verdict by an entry of level 1, and a set by an entry of level 2 with the verdict true. Entries of a history that
+/// isn't legal show neither.
 pub fn what_evidence_shows()
     ensures searches { map (λ level. shows_unknown (ex.evidence ex.duel_won 9) (ex.unknown Search level 2)) (1 ∷ 2 ∷ []) ≡ true ∷ false ∷ [] }
     ensures checks { map (λ level. shows_unknown (ex.evidence ex.duel_won 9) (ex.unknown Minimal level 2)) (1 ∷ 2 ∷ []) ≡ false ∷ true ∷ [] }
@@ -272,4 +283,24 @@ pub fn what_evidence_shows()
     ensures no_verdict { map (shows_verdict (ex.evidence ex.duel_refuted 9)) (true ∷ false ∷ []) ≡ false ∷ false ∷ [] }
     ensures sets { map (shows_set (ex.evidence ex.duel_won 9)) ([] ∷ (0 ∷ []) ∷ []) ≡ false ∷ true ∷ [] }
     ensures refuted_set { shows_set (ex.evidence ex.duel_refuted 9) [] ≡ false }
+    ensures stated_verdict { has_verdict ex.bare_verdict true ≡ true }
+    ensures illegal_verdict { shows_verdict (ex.evidence ex.bare_verdict 9) true ≡ false }
+    ensures stated_set { is_held_with ex.bare_set 2 true (0 ∷ []) ≡ true }
+    ensures illegal_set { shows_set (ex.evidence ex.bare_set 9) (0 ∷ []) ≡ false }
+{}
+
+/// A claim is shown where all of it is: each set of a page, and the open answer behind them.
+pub fn what_claims_are_shown()
+    ensures verdicts { map (λ verdict. shows (ex.evidence ex.duel_won 9) (VerdictClaim verdict)) (true ∷ false ∷ []) ≡ true ∷ false ∷ [] }
+    ensures open_answers { map (λ level. shows (ex.evidence ex.duel_won 9) (OpenClaim (ex.unknown Search level 2))) (1 ∷ 2 ∷ []) ≡ true ∷ false ∷ [] }
+    ensures pages { map (λ sets. shows (ex.evidence ex.duel_won 9) (PageClaim sets LastEnd)) ([] ∷ ((0 ∷ []) ∷ []) ∷ ([] ∷ (0 ∷ []) ∷ []) ∷ []) ≡ true ∷ true ∷ false ∷ [] }
+    ensures ends { map (λ level. shows (ex.evidence ex.duel_won 9) (PageClaim ((0 ∷ []) ∷ []) (UnknownEnd (ex.unknown Search level 2)))) (1 ∷ 2 ∷ []) ≡ true ∷ false ∷ [] }
+{}
+
+/// `solve` says a verdict, `list` a page, and `check` nothing of a game.
+pub fn what_commands_claim()
+    ensures verdict { map (ending_of (SolveTask ex.tuning false) (ex.evidence ex.duel_won 9)) (VerdictClaim true ∷ VerdictClaim false ∷ PageClaim [] LastEnd ∷ []) ≡ Some (record { code = 10; output = codes "COHERENT\n" }) ∷ Some (record { code = 20; output = codes "INCOHERENT\n" }) ∷ None ∷ [] }
+    ensures page { map (ending_of (ListTask ex.tuning 1 None) (ex.evidence ex.duel_won 9)) (PageClaim ((0 ∷ []) ∷ []) MoreEnd ∷ PageClaim [] LastEnd ∷ VerdictClaim true ∷ []) ≡ Some (record { code = 10; output = codes "COHERENT\n{a}\nMORE\n" }) ∷ Some (record { code = 20; output = codes "INCOHERENT\nEND\n" }) ∷ None ∷ [] }
+    ensures behind { ending_of (ListTask ex.tuning 1 (Some (codes "{a}"))) (ex.evidence ex.duel_won 9) (PageClaim [] LastEnd) ≡ Some (record { code = 0; output = codes "END\n" }) }
+    ensures check { ending_of CheckTask (ex.evidence ex.duel_won 9) (VerdictClaim true) ≡ None }
 {}

@@ -1,7 +1,6 @@
 //! Worked examples of the definitions of texts, words and output: each contract is computed.
 ghost use Rattle.std.specs.Prelude.{◌≡◌, ◌∷◌, ◌++◌, [], ◌+◌, pos, negsuc, codes, length, map, replicate, true, false, None, Some, Ok, Err};
 ghost use Rattle.asp_defs.specs.declared.faults.TextFault.TheVariants as faults;
-ghost use Rattle.asp_defs.specs.declared.faults.Form.TheVariants.{Strong, Bounds};
 ghost use Rattle.asp_defs.specs.declared.faults.Kind.TheVariants.{Search};
 ghost use Rattle.asp_defs.specs.declared.faults.Var.TheVariants.{Named, Anon};
 ghost use Rattle.asp_defs.specs.declared.faults.Which.TheVariants.{Levels, Variables};
@@ -27,6 +26,8 @@ pub fn longest_tokens()
     ensures arrow { token_list (codes ":-1") ≡ ArrowToken ∷ NumberToken (pos 1) ∷ [] }
     ensures number { token_list (codes "X-01") ≡ VariableToken (codes "X") ∷ NumberToken (negsuc 0) ∷ [] }
     ensures minus { token_list (codes "a : -b") ≡ NameToken (codes "a") ∷ ColonToken ∷ MinusToken ∷ NameToken (codes "b") ∷ [] }
+    ensures negative { token_list (codes "--5 - 5") ≡ MinusToken ∷ NumberToken (negsuc 4) ∷ MinusToken ∷ NumberToken (pos 5) ∷ [] }
+    ensures negated { token_list (codes "-a5 -X") ≡ MinusToken ∷ NameToken (codes "a5") ∷ MinusToken ∷ VariableToken (codes "X") ∷ [] }
     ensures underscore { token_list (codes "_X") ≡ AnonymousToken ∷ VariableToken (codes "X") ∷ [] }
     ensures directive { token_list (codes "%@existsX") ≡ DirectiveToken (codes "exists") ∷ VariableToken (codes "X") ∷ [] }
     ensures no_letters { token_list (codes "%@Exists") ≡ DirectiveToken [] ∷ VariableToken (codes "Exists") ∷ [] }
@@ -48,9 +49,8 @@ pub fn refusals_by_place()
     ensures before { refusal_of [] (NameToken (codes "a")) 0 ≡ faults.BeforeLevel 0 }
     ensures behind { refusal_of (token_list (codes "%@exists\n%@constraint\n")) (DirectiveToken (codes "forall")) 22 ≡ faults.AfterConstraint 22 }
     ensures within { refusal_of (token_list (codes "%@exists a")) (DirectiveToken (codes "forall")) 11 ≡ faults.Unexpected 11 }
-    ensures strong { refusal_of (token_list (codes "%@exists a(b,c),")) MinusToken 16 ≡ faults.NotYet 16 Strong }
     ensures argument { refusal_of (token_list (codes "%@exists a(b,")) MinusToken 13 ≡ faults.Unexpected 13 }
-    ensures bound { refusal_of (token_list (codes "%@exists {a}")) (NumberToken (pos 1)) 13 ≡ faults.NotYet 13 Bounds }
+    ensures bound { refusal_of (token_list (codes "%@exists {a} 1")) (NumberToken (pos 2)) 15 ≡ faults.Unexpected 15 }
 {}
 
 /// A variable is safe by a positive atom or a chain of equations; a condition binds its own element alone.
@@ -92,7 +92,7 @@ pub fn words_are_read()
 /// The lines of refusals and open answers.
 pub fn lines_of_answers()
     ensures word { word_line 2 ≡ codes "aspq: word 2 refused\n" }
-    ensures text { text_fault_line (faults.NotYet 9 Strong) ≡ codes "aspq: not yet: strong negation at 9\n" }
+    ensures text { text_fault_line (faults.Unexpected 9) ≡ codes "aspq: unexpected at 9\n" }
     ensures behind { text_fault_line (faults.AfterConstraint 22) ≡ codes "aspq: after the constraint part at 22\n" }
     ensures variable { check_refusal_line (UnsafeRule 1 Anon) ≡ codes "aspq: unsafe variable _ in rule 1\n" }
     ensures count { check_refusal_line (PastLimit Variables 17) ≡ codes "aspq: too large: variables 17\n" }
@@ -102,6 +102,8 @@ pub fn lines_of_answers()
 /// The canonical text of a program.
 pub fn canonical_texts()
     ensures close { program_text texts.close_program ≡ codes "%@exists\na :- b, not c.\n{d; e : f}.\n" }
+    ensures strong { program_text texts.strong_program ≡ codes "%@exists\n-p(1..2).\n-a :- not -b, p(-5).\n" }
+    ensures bounds { program_text texts.bounded_program ≡ codes "%@exists\n1 {a; -b} 2 :- c.\n{a} -1.\n0 {b}.\n" }
     ensures terms { program_text texts.terms_program ≡ codes "%@forall\np(1..3).\nt(X,_) | u :- X != 2, not v(_,-1).\n%@constraint\n:- .\n" }
 {}
 
@@ -119,8 +121,8 @@ pub fn sets_and_pages()
 
 /// The text of a log, and which entries may stand in it.
 pub fn logs()
-    ensures won { log_text texts.no_bases texts.two_entries ≡ codes "ASPQ-LOG 1\n2 T [] {}\n1 T [] {}\nLOG 2\n" }
-    ensures cube { log_text texts.small_bases (texts.cube_entry ∷ []) ≡ codes "ASPQ-LOG 1\n2 F [not a, p(-2,b)] {p(-2,b)}\nLOG 1\n" }
+    ensures won { log_text texts.no_bases texts.two_entries ≡ codes "ASPQ-LOG 2\n2 T [] {}\n1 T [] {}\nLOG 2\n" }
+    ensures cube { log_text texts.small_bases (texts.cube_entry ∷ []) ≡ codes "ASPQ-LOG 2\n2 F [not a, p(-2,b)] {p(-2,b)}\nLOG 1\n" }
     ensures stands { may_stand texts.small_bases texts.cube_entry ≡ true }
     ensures outside { may_stand texts.no_bases texts.cube_entry ≡ false }
     ensures unheld { may_stand texts.small_bases (record texts.cube_entry { seed = [] }) ≡ false }

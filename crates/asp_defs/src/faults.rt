@@ -5,15 +5,6 @@ use crate::list::Name;
 use std::alloc::AllocError;
 use thiserror::Error;
 
-/// A form of the language that is known and not read yet.
-#[derive(Debug, Clone, Copy, PartialEq, Eq)]
-pub enum Form {
-    /// A minus before an atom.
-    Strong,
-    /// A number before or after a choice.
-    Bounds,
-}
-
 /// Why a text gives no program. Places are byte offsets from 0.
 #[derive(Debug, Drop, Error)]
 pub enum TextFault {
@@ -41,9 +32,6 @@ pub enum TextFault {
     /// A directive stands there behind the constraint part.
     #[error("after the constraint part at {0}")]
     AfterConstraint(u32),
-    /// A form stands there that is not read yet.
-    #[error("not yet at {0}")]
-    NotYet(u32, Form),
     /// The token there continues no program.
     #[error("unexpected at {0}")]
     Unexpected(u32),
@@ -170,7 +158,7 @@ pub struct Unknown {
 }
 
 /// Why a search gives up.
-#[derive(Debug, Drop, Error)]
+#[derive(Debug, Clone, Copy, Error)]
 pub enum Give {
     /// A budget was spent.
     #[error("a budget was spent")]

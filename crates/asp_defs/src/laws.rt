@@ -1,7 +1,7 @@
 //! Laws of the definitions: each contract is one, and each body is empty.
-ghost use Rattle.asp_defs.specs.Laws.{AnswerSetsAreModels, AnswerSetsAreMinimal, AnswerSetsAreFounded, JustificationsStay, JustifiedIsSound, LegalIsSound, PrefixesAreLegal, CellsAreBounded, MovesAgree, ConstraintsDecide, ValuesRestOnRules, MovesAreShown, ValuesAreShown, SubsetsAreListed, SubsetsAreInOrder, NoSetIsAfterItself, SetsAreOrdered, RunsStayLegal, StepsKeepWhatWasSeen};
+ghost use Rattle.asp_defs.specs.Laws.{AnswerSetsAreModels, AnswerSetsAreMinimal, AnswerSetsAreFounded, BoundsRestOnTheirAtoms, JustificationsStay, JustifiedIsSound, LegalIsSound, PrefixesAreLegal, CellsAreBounded, MovesAgree, ConstraintsDecide, ValuesRestOnRulesAndBounds, MovesAreShown, ValuesAreShown, SubsetsAreListed, SubsetsAreInOrder, NoSetIsAfterItself, SetsAreOrdered, RunsStayLegal, StepsKeepWhatWasSeen, ShownVerdictsAreRight, ShownSetsAreRight, VerdictsHaveEvidence};
 
-/// An answer set satisfies the rules.
+/// An answer set satisfies the rules and meets the bounds.
 pub fn answer_sets_are_models()
     ensures { AnswerSetsAreModels }
 {}
@@ -11,10 +11,15 @@ pub fn answer_sets_are_minimal()
     ensures { AnswerSetsAreMinimal }
 {}
 
-/// An interpretation is an answer set exactly where it satisfies the rules and has no unfounded subset but the
-/// empty one.
+/// An interpretation is an answer set exactly where it satisfies the rules, meets the bounds and has no unfounded subset
+/// but the empty one.
 pub fn answer_sets_are_founded()
     ensures { AnswerSetsAreFounded }
+{}
+
+/// Whether an interpretation meets a bound rests on the bound's atoms alone.
+pub fn bounds_rest_on_their_atoms()
+    ensures { BoundsRestOnTheirAtoms }
 {}
 
 /// What a list of entries justifies, every longer list that begins with it justifies.
@@ -52,9 +57,9 @@ pub fn constraints_decide()
     ensures { ConstraintsDecide }
 {}
 
-/// Outer moves that agree on the atoms that stand in a rule of their level or of a later one have the same value.
-pub fn values_rest_on_rules()
-    ensures { ValuesRestOnRules }
+/// Outer moves that agree on the atoms that stand in a rule or bound of their level or of a later one have the same value.
+pub fn values_rest_on_rules_and_bounds()
+    ensures { ValuesRestOnRulesAndBounds }
 {}
 
 /// For each outer move of each level of a valid game there is a legal history that holds it with its value, and for the game
@@ -85,4 +90,15 @@ pub fn runs_stay_legal()
 /// A step of the core machine takes nothing away of the history and of what each member has seen.
 pub fn steps_keep_what_was_seen()
     ensures { StepsKeepWhatWasSeen }
+{}
+
+/// A verdict that evidence of a valid game shows is the game's value, and a set that it shows has the value true.
+pub fn what_is_shown_is_right()
+    ensures verdicts { ShownVerdictsAreRight }
+    ensures sets { ShownSetsAreRight }
+{}
+
+/// Where a text's game is valid, there is evidence for the verdict that `solve` says of it.
+pub fn verdicts_have_evidence()
+    ensures { VerdictsHaveEvidence }
 {}

@@ -6,6 +6,7 @@
 #![tactic(auto)]
 
 pub mod examples;
+pub mod examples_bounds;
 pub mod examples_text;
 mod faults;
 mod ground;
@@ -14,8 +15,8 @@ pub mod laws_text;
 mod list;
 mod syntax;
 
-pub use faults::{Form, Give, Kind, MOST_SHOWN, SizeFault, TextFault, Unknown, Var, Which};
-pub use ground::{Bases, Const, Game, GroundAtom, GroundRule, Lit};
+pub use faults::{Give, Kind, MOST_SHOWN, SizeFault, TextFault, Unknown, Var, Which};
+pub use ground::{Bases, Bound, Const, Counted, Game, GroundAtom, GroundRule, Lit};
 pub use list::{List, Name};
 pub use std::alloc::AllocError as NoMemory;
 pub use syntax::{Atom, Element, Head, Literal, Op, Part, Program, Quant, Rule, Term};

@@ -2,6 +2,7 @@ ghost use Rattle.std.specs.Prelude.{◌≡◌, ◌↔◌, [], ◌∷◌, ◌++�
 
 use std::alloc::{AllocError, Global};
 use std::marker::Model;
+use std::sync::ArcSlice;
 
 /// A vector that contracts see as the list of its items.
 #[derive(Debug, Drop)]
@@ -68,7 +69,7 @@ impl<T> List<T> {
 }
 
 impl<T: Drop> List<T> {
-    /// Adds an item at the end; on want of memory the list stays and the item is given up.
+    /// Adds an item at the end. When out of memory the list stays and the item is given up.
     pub fn push(&mut self, item: T) -> Result<(), AllocError>
         ensures ok { OnOk result (self.new ≡ self.old ++ item ∷ []) }
         ensures err { OnErr result (self.new ≡ self.old) }
@@ -88,58 +89,65 @@ impl<T: Copy> List<T> {
     }
 }
 
-/// The bytes of a name, which contracts see as their list.
+/// The bytes of a name, which its copies share. Contracts see their list.
 #[derive(Debug, Drop)]
 pub struct Name {
-    bytes: Vec<u8>,
+    /// The bytes; `None` has no bytes and takes no memory.
+    bytes: Option<ArcSlice<u8>>,
 }
 
 impl Model for Name {
-    ghost use Rattle.std.specs.Prelude.{List, ℕ};
+    ghost use Rattle.std.specs.Prelude.{List, ℕ, []};
+    ghost use Rattle.std.specs.Option.{option_map_or};
     ghost use Rattle.std.specs.Coded.{coded_list, coded_ℕ};
+    ghost use Rattle.std.specs.Arc.{arc_slice_items};
 
     ghost Value = { List ℕ };
 
     ghost coded = { coded_list coded_ℕ };
 
-    ghost view = { λ name. name.bytes.items };
+    ghost view = { λ name. option_map_or arc_slice_items name.bytes [] };
 }
 
 impl Name {
-    /// The name with these bytes, without taking memory.
-    pub fn from_vec(bytes: Vec<u8>) -> Name
-        ensures { result ≡ bytes.items }
+    /// The name of no bytes, which takes no memory.
+    pub fn empty() -> Name
+        ensures { result ≡ [] }
     {
-        Name { bytes }
+        Name { bytes: None }
     }
 
     /// The name with the slice's bytes.
     pub fn from_slice(alloc: Global, bytes: &[u8]) -> Result<Name, AllocError>
         ensures { IfOk result (λ name. name ≡ bytes.now) }
     {
-        let bytes = Vec::from_slice(alloc, bytes)?;
-        Ok(Name { bytes })
+        let bytes = ArcSlice::from_slice(alloc, bytes)?;
+        Ok(Name { bytes: Some(bytes) })
     }
 
-    /// An equal name.
-    pub fn copy(&self, alloc: Global) -> Result<Name, AllocError>
+    /// An equal name, which shares the bytes and takes no memory.
+    ///
+    /// # Errors
+    ///
+    /// `AllocError` where the count of the owners is full, at 2^63 - 1.
+    pub fn copy(&self) -> Result<Name, AllocError>
         ensures { IfOk result (λ name. name ≡ self.now) }
     {
-        Name::from_slice(alloc, self.bytes.as_slice())
+        match &self.bytes {
+            Some(bytes) => Ok(Name {
+                bytes: Some(bytes.clone()?),
+            }),
+            None => Ok(Name::empty()),
+        }
     }
 
     /// The name's bytes as a slice.
     pub fn as_slice(&self) -> &[u8]
         ensures { result.now ≡ self.now }
     {
-        self.bytes.as_slice()
-    }
-
-    /// The vector of the name's bytes, without taking memory.
-    pub fn into_vec(self) -> Vec<u8>
-        ensures { result.items ≡ self }
-    {
-        let Name { bytes } = self;
-        bytes
+        match &self.bytes {
+            Some(bytes) => bytes.as_slice(),
+            None => &[],
+        }
     }
 }

@@ -74,8 +74,8 @@ pub struct Element {
 pub enum Head {
     /// A disjunction of atoms.
     Disj(List<Atom>),
-    /// A choice of elements.
-    Choice(List<Element>),
+    /// A choice of elements, between a least and a greatest number of them where these are given.
+    Choice(Option<i32>, List<Element>, Option<i32>),
 }
 
 /// A rule as it is written.
@@ -92,7 +92,7 @@ impl Rule {
     {
         match &self.head {
             Head::Disj(atoms) => atoms.is_empty(),
-            Head::Choice(_) => false,
+            Head::Choice(..) => false,
         }
     }
 }

@@ -9,3 +9,6 @@ returns-clause-unended c = logs.unended
 
 pub returns-clause-bad_line : goal.returns-clause-bad_line
 returns-clause-bad_line c = logs.bad_line
+
+pub returns-clause-version : goal.returns-clause-version
+returns-clause-version c = logs.other_version

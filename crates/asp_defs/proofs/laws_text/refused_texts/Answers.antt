@@ -16,11 +16,5 @@ returns-clause-before_level c = texts.before_level
 pub returns-clause-after_constraint : goal.returns-clause-after_constraint
 returns-clause-after_constraint c = texts.after_constraint
 
-pub returns-clause-strong_negation : goal.returns-clause-strong_negation
-returns-clause-strong_negation c = texts.strong_negation
-
-pub returns-clause-choice_bounds : goal.returns-clause-choice_bounds
-returns-clause-choice_bounds c = texts.choice_bounds
-
 pub returns-clause-unexpected : goal.returns-clause-unexpected
 returns-clause-unexpected c = texts.unexpected

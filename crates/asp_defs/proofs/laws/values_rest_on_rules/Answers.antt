@@ -1,5 +1,0 @@
-use Rattle.asp_defs.proofs.Irrelevance as laws
-use Rattle.asp_defs.proofs.laws.values_rest_on_rules.Goals as goal
-
-pub returns : goal.returns
-returns c = laws.values_rest_on_rules

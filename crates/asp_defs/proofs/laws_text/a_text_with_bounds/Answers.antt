@@ -1,0 +1,5 @@
+use Rattle.asp_defs.proofs.TextReadings as readings
+use Rattle.asp_defs.proofs.laws_text.a_text_with_bounds.Goals as goal
+
+pub returns : goal.returns
+returns c = readings.bounded_text_is_read
