@@ -21,14 +21,14 @@ use Rattle.asp_grammar.proofs.Refusals.{refuses}
 -- all tokens may come, or one can't
 data Outcome (b : Builder) (ts : List Placed) : Type 0 where
   ended : (c : Builder) → run b (without_places ts) ≡ Some c → answer_from b ts ≡ end_answer (finish c) → Outcome b ts
-  stopped : (before : List Placed) (t : Placed) (behind : List Placed) (c : Builder) → ts ≡ before ++ t ∷ behind → run b (without_places before) ≡ Some c → step c t.token ≡ None → answer_from b ts ≡ Err (refusal_at c.place t.token t.begins) → Outcome b ts
+  stopped : (before : List Placed) (t : Placed) (behind : List Placed) (c : Builder) → ts ≡ before ++ t ∷ behind → run b (without_places before) ≡ Some c → step c t.token ≡ None → answer_from b ts ≡ Err (refusal_at c.state t.token t.begins) → Outcome b ts
 
 -- a token more in front
 abbrev run_of : List Token → Option Builder → Option Builder
 run_of ts o = elim o [ None ↦ None | Some c ↦ run c ts ]
 
 abbrev answer_of : Builder → Placed → List Placed → Option Builder → Result Program TextFault
-answer_of b t ts o = elim o [ None ↦ Err (refusal_at b.place t.token t.begins) | Some c ↦ answer_from c ts ]
+answer_of b t ts o = elim o [ None ↦ Err (refusal_at b.state t.token t.begins) | Some c ↦ answer_from c ts ]
 
 one_more : (b c : Builder) (t : Placed) (ts : List Placed) → step b t.token ≡ Some c → Outcome c ts → Outcome b (t ∷ ts)
 one_more b c t ts e (ended d r a) =

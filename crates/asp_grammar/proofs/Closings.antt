@@ -1,18 +1,18 @@
--- From every place some tokens lead to the end of a statement.
+-- From every state some tokens lead to the end of a statement.
 use Rattle.std.proofs.Common.{refl, Bool, List, [], ◌∷◌, codes}
 use Rattle.std.specs.Prelude.{pos}
-use Rattle.asp_defs.specs.Tokens.{Token, DirectiveToken, NameToken, NumberToken, DotToken, RightParenToken, RightBraceToken, EqToken}
-use Rattle.asp_grammar.specs.declared.place.Side.{Side}
-use Rattle.asp_grammar.specs.declared.place.Side.TheVariants.{Body, Condition}
-use Rattle.asp_grammar.specs.declared.place.Role.{Role}
-use Rattle.asp_grammar.specs.declared.place.Role.TheVariants.{First, Wide, Further, Chosen, Positive, Negative}
-use Rattle.asp_grammar.specs.declared.place.Place.{Place}
-use Rattle.asp_grammar.specs.declared.place.Place.TheVariants.{Start, Statement, NextHead, AfterHead, AfterFact, FirstElement, NextElement, AfterChosen, AfterChoice, FirstLiteral, NextLiteral, AfterNot, AfterLeft, AfterOperator, AfterLiteral, AfterName, FirstArgument, NextArgument, AfterArgument, AfterNumber, AfterDots}
+use Rattle.asp_defs.specs.Tokens.{Token, DirectiveToken, NameToken, NumberToken, DotToken, RightParenToken, LeftBraceToken, RightBraceToken, EqToken}
+use Rattle.asp_grammar.specs.declared.state.Side.{Side}
+use Rattle.asp_grammar.specs.declared.state.Side.TheVariants.{Body, Condition}
+use Rattle.asp_grammar.specs.declared.state.Role.{Role}
+use Rattle.asp_grammar.specs.declared.state.Role.TheVariants.{First, Wide, Further, Chosen, Positive, Negative}
+use Rattle.asp_grammar.specs.declared.state.State.{State}
+use Rattle.asp_grammar.specs.declared.state.State.TheVariants.{Start, Statement, NextHead, AfterHead, AfterFact, AfterLower, FirstElement, NextElement, AfterChosen, AfterChoice, AfterUpper, FirstLiteral, NextLiteral, AfterNot, AfterLeft, AfterOperator, AfterLiteral, AfterName, AfterMinus, AfterNegated, FirstArgument, NextArgument, AfterArgument, AfterNumber, AfterDots}
 use Rattle.asp_grammar.specs.Machine.{behind}
-use Rattle.asp_grammar.proofs.Walks.{Accepts}
+use Rattle.asp_grammar.proofs.Walks.{Accepts, behind_negated}
 
-abbrev Closing : Bool → Place → Type 0
-Closing f place = (more : List Token) × Accepts f place more
+abbrev Closing : Bool → State → Type 0
+Closing f state = (more : List Token) × Accepts f state more
 
 abbrev name : Token
 name = NameToken (codes "a")
@@ -50,16 +50,21 @@ close_name f (Positive Condition) = (RightBraceToken ∷ DotToken ∷ [], refl)
 close_name f (Negative Body) = (DotToken ∷ [], refl)
 close_name f (Negative Condition) = (RightBraceToken ∷ DotToken ∷ [], refl)
 
-pub closing : (f : Bool) (place : Place) → Closing f place
+close_negated : (f : Bool) (role : Role) → Closing f (AfterNegated role)
+close_negated f role = let c = close_behind f role in (c.0, behind_negated f role c.0 c.1)
+
+pub closing : (f : Bool) (state : State) → Closing f state
 closing f Start = (DirectiveToken (codes "exists") ∷ [], refl)
 closing f Statement = ([], refl)
 closing f NextHead = (name ∷ DotToken ∷ [], refl)
 closing f AfterHead = (DotToken ∷ [], refl)
 closing f AfterFact = (DotToken ∷ [], refl)
+closing f AfterLower = (LeftBraceToken ∷ RightBraceToken ∷ DotToken ∷ [], refl)
 closing f FirstElement = (RightBraceToken ∷ DotToken ∷ [], refl)
 closing f NextElement = (name ∷ RightBraceToken ∷ DotToken ∷ [], refl)
 closing f AfterChosen = (RightBraceToken ∷ DotToken ∷ [], refl)
 closing f AfterChoice = (DotToken ∷ [], refl)
+closing f AfterUpper = (DotToken ∷ [], refl)
 closing f (FirstLiteral side) = close_first f side
 closing f (NextLiteral side) = let c = close_name f (Positive side) in (name ∷ c.0, c.1)
 closing f (AfterNot side) = let c = close_name f (Negative side) in (name ∷ c.0, c.1)
@@ -67,6 +72,8 @@ closing f (AfterLeft side) = let c = close_literals f side in (EqToken ∷ zero_
 closing f (AfterOperator side) = let c = close_literals f side in (zero_token ∷ c.0, c.1)
 closing f (AfterLiteral side) = close_literals f side
 closing f (AfterName role) = close_name f role
+closing f (AfterMinus role) = let c = close_negated f role in (name ∷ c.0, c.1)
+closing f (AfterNegated role) = close_negated f role
 closing f (FirstArgument role) = let c = close_behind f role in (RightParenToken ∷ c.0, c.1)
 closing f (NextArgument role) = let c = close_argument f role in (name ∷ c.0, c.1)
 closing f (AfterArgument role) = close_argument f role

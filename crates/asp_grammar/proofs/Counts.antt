@@ -1,17 +1,17 @@
 -- A token adds at most one to the tree's count of nameless variables.
-use Rattle.std.proofs.Common.{arith, ◌≡◌, refl, Bool, true, false, []}
+use Rattle.std.proofs.Common.{arith, ◌≡◌, refl, ◌∙◌, Bool, true, false, []}
 use Rattle.std.specs.Prelude.{ℕ, suc, ◌≤◌, if◌then◌else◌, Option, Some, None}
 use Rattle.asp_defs.specs.declared.syntax.Term.TheVariants.{Int, Sym}
 use Rattle.asp_defs.specs.declared.syntax.Atom.{Atom}
-use Rattle.asp_defs.specs.Tokens.{Token, DirectiveToken, NameToken, NumberToken, VariableToken, AnonymousToken, ArrowToken, DotToken, DotsToken, RightParenToken, LeftParenToken, LeftBraceToken, SemicolonToken, RightBraceToken}
-use Rattle.asp_grammar.specs.declared.place.Directive.{Directive}
-use Rattle.asp_grammar.specs.declared.place.Directive.TheVariants.{Level, Constraint}
-use Rattle.asp_grammar.specs.declared.place.Role.{Role}
-use Rattle.asp_grammar.specs.declared.place.Role.TheVariants.{First, Wide, Further, Chosen, Positive, Negative}
-use Rattle.asp_grammar.specs.declared.place.Place.{Place}
-use Rattle.asp_grammar.specs.declared.place.Place.TheVariants.{Start, Statement, NextHead, AfterHead, AfterFact, FirstElement, NextElement, AfterChosen, AfterChoice, FirstLiteral, NextLiteral, AfterNot, AfterLeft, AfterOperator, AfterLiteral, AfterName, FirstArgument, NextArgument, AfterArgument, AfterNumber, AfterDots}
+use Rattle.asp_defs.specs.Tokens.{Token, DirectiveToken, NameToken, NumberToken, MinusToken, VariableToken, AnonymousToken, ArrowToken, DotToken, DotsToken, RightParenToken, LeftParenToken, LeftBraceToken, SemicolonToken, RightBraceToken}
+use Rattle.asp_grammar.specs.declared.state.Directive.{Directive}
+use Rattle.asp_grammar.specs.declared.state.Directive.TheVariants.{Level, Constraint}
+use Rattle.asp_grammar.specs.declared.state.Role.{Role}
+use Rattle.asp_grammar.specs.declared.state.Role.TheVariants.{First, Wide, Further, Chosen, Positive, Negative}
+use Rattle.asp_grammar.specs.declared.state.State.{State}
+use Rattle.asp_grammar.specs.declared.state.State.TheVariants.{Start, Statement, NextHead, AfterHead, AfterFact, AfterLower, FirstElement, NextElement, AfterChosen, AfterChoice, AfterUpper, FirstLiteral, NextLiteral, AfterNot, AfterLeft, AfterOperator, AfterLiteral, AfterName, AfterMinus, AfterNegated, FirstArgument, NextArgument, AfterArgument, AfterNumber, AfterDots}
 use Rattle.asp_grammar.specs.declared.tree.Tree.{Tree}
-use Rattle.asp_grammar.specs.Machine.{directive_of, first_directive, add_directive, add_atom, add_bare, add_whole, add_argument, add_name, op_of, is_operator_sign, counted, add_start, add_statement, add_head, add_first_element, add_chosen, add_choice, add_literal, add_close, add_first_literal, add_behind, add_bare_name, add_after_name, add_next_argument, add_first_argument, add_after_argument, add_after_number, add_high, add}
+use Rattle.asp_grammar.specs.Machine.{directive_of, first_directive, add_directive, add_atom, add_bare, add_whole, add_argument, add_name, op_of, is_operator_sign, counted, add_start, add_statement, add_head, add_chosen, close_choice, add_upper, add_choice, add_literal, add_close, add_first_literal, add_behind, add_bare_name, add_after_name, add_negated, add_after_negated, add_next_argument, add_first_argument, add_after_argument, add_after_number, add_high, add}
 
 -- a change that leaves the count, and one that adds at most one
 abbrev Leaves : (Tree → Tree) → Type 0
@@ -52,6 +52,8 @@ leaves_start other tree = refl
 statement_grows : (t : Token) → Grows (add_statement t)
 statement_grows (DirectiveToken word) tree = at_most _ _ (leaves_directive (directive_of word) tree)
 statement_grows (NameToken name) tree = least tree.anonymous
+statement_grows MinusToken tree = least tree.anonymous
+statement_grows (NumberToken x) tree = least tree.anonymous
 statement_grows LeftBraceToken tree = least tree.anonymous
 statement_grows ArrowToken tree = least tree.anonymous
 statement_grows other tree = at_most tree.anonymous tree.anonymous refl
@@ -64,17 +66,17 @@ leaves_head : (t : Token) → Leaves (add_head t)
 leaves_head DotToken tree = refl
 leaves_head other tree = refl
 
-leaves_first_element : (t : Token) → Leaves (add_first_element t)
-leaves_first_element DotToken tree = refl
-leaves_first_element other tree = refl
-
 leaves_chosen : (t : Token) → Leaves (add_chosen t)
 leaves_chosen DotToken tree = refl
 leaves_chosen other tree = refl
 
+leaves_upper : (t : Token) → Leaves (add_upper t)
+leaves_upper DotToken tree = refl
+leaves_upper other tree = refl
+
 leaves_choice : (t : Token) → Leaves (add_choice t)
-leaves_choice DotToken tree = refl
-leaves_choice other tree = refl
+leaves_choice (NumberToken x) tree = refl
+leaves_choice other tree = leaves_upper other (close_choice None tree)
 
 literal_grows : (t : Token) → Grows (add_literal t)
 literal_grows AnonymousToken tree = most tree.anonymous
@@ -122,6 +124,14 @@ leaves_after_name : (role : Role) (t : Token) → Leaves (add_after_name role t)
 leaves_after_name role LeftParenToken tree = refl
 leaves_after_name role other tree = leaves_bare role other tree
 
+leaves_negated : (t : Token) → Leaves (add_negated t)
+leaves_negated (NameToken name) tree = refl
+leaves_negated other tree = refl
+
+leaves_after_negated : (role : Role) (t : Token) → Leaves (add_after_negated role t)
+leaves_after_negated role LeftParenToken tree = refl
+leaves_after_negated role other tree = leaves_behind role other (add_bare role tree) ∙ leaves_atom role (record { name = tree.name; args = [] }) (record tree { name = [] })
+
 argument_grows : (t : Token) → Grows (add_next_argument t)
 argument_grows (NumberToken x) tree = at_most tree.anonymous tree.anonymous refl
 argument_grows other tree = counted_grows other tree.anonymous
@@ -145,16 +155,18 @@ leaves_high : (t : Token) → Leaves (add_high t)
 leaves_high (NumberToken x) tree = refl
 leaves_high other tree = refl
 
-pub count_grows : (place : Place) (t : Token) → Grows (add place t)
+pub count_grows : (state : State) (t : Token) → Grows (add state t)
 count_grows Start t tree = at_most _ _ (leaves_start t tree)
 count_grows Statement t tree = statement_grows t tree
 count_grows NextHead t tree = at_most _ _ (leaves_name t tree)
 count_grows AfterHead t tree = at_most _ _ (leaves_head t tree)
 count_grows AfterFact t tree = at_most _ _ (leaves_head t tree)
-count_grows FirstElement t tree = at_most _ _ (leaves_first_element t tree)
+count_grows AfterLower t tree = at_most tree.anonymous tree.anonymous refl
+count_grows FirstElement t tree = at_most _ _ (leaves_name t tree)
 count_grows NextElement t tree = at_most _ _ (leaves_name t tree)
 count_grows AfterChosen t tree = at_most _ _ (leaves_chosen t tree)
 count_grows AfterChoice t tree = at_most _ _ (leaves_choice t tree)
+count_grows AfterUpper t tree = at_most _ _ (leaves_upper t tree)
 count_grows (FirstLiteral side) t tree = first_literal_grows t tree
 count_grows (NextLiteral side) t tree = literal_grows t tree
 count_grows (AfterNot side) t tree = at_most _ _ (leaves_name t tree)
@@ -162,6 +174,8 @@ count_grows (AfterLeft side) t tree = at_most tree.anonymous tree.anonymous refl
 count_grows (AfterOperator side) t tree = counted_grows t tree.anonymous
 count_grows (AfterLiteral side) t tree = at_most _ _ (leaves_close t tree)
 count_grows (AfterName role) t tree = at_most _ _ (leaves_after_name role t tree)
+count_grows (AfterMinus role) t tree = at_most _ _ (leaves_negated t tree)
+count_grows (AfterNegated role) t tree = at_most _ _ (leaves_after_negated role t tree)
 count_grows (FirstArgument role) t tree = first_argument_grows role t tree
 count_grows (NextArgument role) t tree = argument_grows t tree
 count_grows (AfterArgument role) t tree = at_most _ _ (leaves_after_argument role t tree)

@@ -10,20 +10,20 @@ use Rattle.asp_defs.specs.declared.syntax.Literal.{Literal}
 use Rattle.asp_defs.specs.declared.syntax.Literal.TheVariants.{Pos, Neg, Cmp}
 use Rattle.asp_defs.specs.declared.syntax.Rule.{Rule}
 use Rattle.asp_defs.specs.Lists.{numbers_from}
-use Rattle.asp_defs.specs.Tokens.{Token, DirectiveToken, NotToken, NameToken, VariableToken, AnonymousToken, NumberToken, ArrowToken, ColonToken, DotToken, DotsToken, CommaToken, SemicolonToken, BarToken, LeftParenToken, RightParenToken, LeftBraceToken, RightBraceToken}
+use Rattle.asp_defs.specs.Tokens.{Token, DirectiveToken, NotToken, NameToken, VariableToken, AnonymousToken, NumberToken, MinusToken, ArrowToken, ColonToken, DotToken, DotsToken, CommaToken, SemicolonToken, BarToken, LeftParenToken, RightParenToken, LeftBraceToken, RightBraceToken}
 use Rattle.asp_defs.specs.Grammar.{term_anonymous, atom_anonymous, literal_anonymous, element_anonymous, head_anonymous, rule_anonymous, IsNumbered}
 use Rattle.asp_defs.proofs.Numbering.{make_element}
-use Rattle.asp_grammar.specs.declared.place.Directive.{Directive}
-use Rattle.asp_grammar.specs.declared.place.Directive.TheVariants.{Level, Constraint}
-use Rattle.asp_grammar.specs.declared.place.Side.{Side}
-use Rattle.asp_grammar.specs.declared.place.Side.TheVariants.{Body, Condition}
-use Rattle.asp_grammar.specs.declared.place.Role.{Role}
-use Rattle.asp_grammar.specs.declared.place.Role.TheVariants.{First, Wide, Further, Chosen, Positive, Negative}
-use Rattle.asp_grammar.specs.declared.place.Place.{Place}
-use Rattle.asp_grammar.specs.declared.place.Place.TheVariants.{Start, Statement, NextHead, AfterHead, AfterFact, FirstElement, NextElement, AfterChosen, AfterChoice, FirstLiteral, NextLiteral, AfterNot, AfterLeft, AfterOperator, AfterLiteral, AfterName, FirstArgument, NextArgument, AfterArgument, AfterNumber, AfterDots}
+use Rattle.asp_grammar.specs.declared.state.Directive.{Directive}
+use Rattle.asp_grammar.specs.declared.state.Directive.TheVariants.{Level, Constraint}
+use Rattle.asp_grammar.specs.declared.state.Side.{Side}
+use Rattle.asp_grammar.specs.declared.state.Side.TheVariants.{Body, Condition}
+use Rattle.asp_grammar.specs.declared.state.Role.{Role}
+use Rattle.asp_grammar.specs.declared.state.Role.TheVariants.{First, Wide, Further, Chosen, Positive, Negative}
+use Rattle.asp_grammar.specs.declared.state.State.{State}
+use Rattle.asp_grammar.specs.declared.state.State.TheVariants.{Start, Statement, NextHead, AfterHead, AfterFact, AfterLower, FirstElement, NextElement, AfterChosen, AfterChoice, AfterUpper, FirstLiteral, NextLiteral, AfterNot, AfterLeft, AfterOperator, AfterLiteral, AfterName, AfterMinus, AfterNegated, FirstArgument, NextArgument, AfterArgument, AfterNumber, AfterDots}
 use Rattle.asp_grammar.specs.declared.tree.Tree.{Tree}
 use Rattle.asp_grammar.proofs.Rests.{atom_frame, rule_frame}
-use Rattle.asp_grammar.specs.Machine.{directive_of, after_first, after_directive, first_directive, add_directive, behind, bare_atom, add_atom, add_bare, add_whole, add_argument, next_start, next_statement, next_head, next_fact, next_first_element, next_chosen, next_choice, next_literal, next_close, next_first_literal, next_after_literal, next_left, next_right, next_behind, next_name, next_argument, next_first_argument, next_after_argument, next_number, next_high, next_place, add_start, add_statement, add_head, add_first_element, add_chosen, add_choice, add_literal, add_close, add_first_literal, add_right, add_behind, add_after_name, add_next_argument, add_first_argument, add_after_argument, add_after_number, add_high, add, add_term, add_name, term_of, counted, whole_atom, is_operator_sign, op_of, next_atom, next_bare, add_bare_name, next_dots}
+use Rattle.asp_grammar.specs.Machine.{directive_of, after_first, after_directive, first_directive, add_directive, behind, bare_atom, add_atom, add_bare, add_whole, add_argument, next_start, next_statement, next_head, next_fact, next_lower, next_first_element, next_chosen, next_upper, next_choice, next_literal, next_close, next_first_literal, next_after_literal, next_left, next_right, next_behind, next_name, next_minus, next_negated, next_argument, next_first_argument, next_after_argument, next_number, next_high, next_state, add_start, add_statement, add_head, add_chosen, add_upper, add_choice, close_choice, add_literal, add_close, add_first_literal, add_right, add_behind, add_after_name, add_negated, add_after_negated, add_next_argument, add_first_argument, add_after_argument, add_after_number, add_high, add, add_term, add_name, term_of, counted, whole_atom, is_operator_sign, op_of, next_atom, next_bare, add_bare_name, next_dots}
 
 -- ---- numbers from one on
 
@@ -67,16 +67,18 @@ before_atom (Negative side) tree = of_literals side tree
 abbrev of_arguments : Role → Tree → List ℕ
 of_arguments role tree = before_atom role (atom_frame tree) ++ flat_map term_anonymous tree.args
 
-abbrev numbers : Place → Tree → List ℕ
+abbrev numbers : State → Tree → List ℕ
 numbers Start tree = []
 numbers Statement tree = []
 numbers NextHead tree = flat_map atom_anonymous tree.atoms
 numbers AfterHead tree = flat_map atom_anonymous tree.atoms
 numbers AfterFact tree = flat_map atom_anonymous tree.atoms
+numbers AfterLower tree = flat_map element_anonymous tree.elements
 numbers FirstElement tree = flat_map element_anonymous tree.elements
 numbers NextElement tree = flat_map element_anonymous tree.elements
 numbers AfterChosen tree = flat_map element_anonymous tree.elements ++ atom_anonymous tree.element
-numbers AfterChoice tree = head_anonymous tree.head
+numbers AfterChoice tree = flat_map element_anonymous tree.elements
+numbers AfterUpper tree = head_anonymous tree.head
 numbers (FirstLiteral side) tree = of_literals side tree
 numbers (NextLiteral side) tree = of_literals side tree
 numbers (AfterNot side) tree = of_literals side tree
@@ -84,6 +86,8 @@ numbers (AfterLeft side) tree = of_literals side tree ++ term_anonymous tree.lef
 numbers (AfterOperator side) tree = of_literals side tree ++ term_anonymous tree.left
 numbers (AfterLiteral side) tree = of_literals side tree
 numbers (AfterName role) tree = before_atom role (atom_frame tree)
+numbers (AfterMinus role) tree = before_atom role (atom_frame tree)
+numbers (AfterNegated role) tree = before_atom role (atom_frame tree)
 numbers (FirstArgument role) tree = of_arguments role tree
 numbers (NextArgument role) tree = of_arguments role tree
 numbers (AfterArgument role) tree = of_arguments role tree
@@ -91,14 +95,14 @@ numbers (AfterNumber role) tree = of_arguments role tree
 numbers AfterDots tree = of_arguments Wide tree
 
 -- inside a statement the tree counts them
-abbrev pub Counts : Place → Tree → Type 0
+abbrev pub Counts : State → Tree → Type 0
 Counts Start tree = Unit {0}
 Counts Statement tree = Unit {0}
-Counts place tree = numbers place tree ≡ numbers_from 1 tree.anonymous
+Counts state tree = numbers state tree ≡ numbers_from 1 tree.anonymous
 
-abbrev pub AllCount : Option Place → Tree → Type 0
+abbrev pub AllCount : Option State → Tree → Type 0
 AllCount None tree = Unit {0}
-AllCount (Some place) tree = Counts place tree
+AllCount (Some state) tree = Counts state tree
 
 -- ---- each token keeps the count
 
@@ -185,6 +189,8 @@ counts_statement f (DirectiveToken word) tree = by_directive f (directive_of wor
     by_directive false None = tt
     by_directive false (Some d) = tt
 counts_statement f (NameToken name) tree = refl
+counts_statement f MinusToken tree = refl
+counts_statement f (NumberToken x) tree = refl
 counts_statement f LeftBraceToken tree = refl
 counts_statement f ArrowToken tree = refl
 counts_statement f other tree = tt
@@ -200,8 +206,13 @@ counts_fact : (t : Token) (tree : Tree) → AllCount (next_fact t) (add_head t t
 counts_fact DotToken tree = tt
 counts_fact other tree = tt
 
-counts_first_element : (t : Token) (tree : Tree) → Counts FirstElement tree → AllCount (next_first_element t) (add_first_element t tree)
+counts_lower : (t : Token) (tree : Tree) → Counts AfterLower tree → AllCount (next_lower t) tree
+counts_lower LeftBraceToken tree e = e
+counts_lower other tree e = tt
+
+counts_first_element : (t : Token) (tree : Tree) → Counts FirstElement tree → AllCount (next_first_element t) (add_name t tree)
 counts_first_element (NameToken name) tree e = e
+counts_first_element MinusToken tree e = e
 counts_first_element RightBraceToken tree e = e
 counts_first_element other tree e = tt
 
@@ -211,14 +222,19 @@ counts_chosen SemicolonToken tree e = counts_element tree [] _ (same _ _ e)
 counts_chosen RightBraceToken tree e = counts_element tree [] _ (same _ _ e)
 counts_chosen other tree e = tt
 
+counts_upper : (t : Token) (tree : Tree) → Counts AfterUpper tree → AllCount (next_upper t) (add_upper t tree)
+counts_upper ArrowToken tree e = same _ _ e
+counts_upper DotToken tree e = tt
+counts_upper other tree e = tt
+
 counts_choice : (t : Token) (tree : Tree) → Counts AfterChoice tree → AllCount (next_choice t) (add_choice t tree)
-counts_choice ArrowToken tree e = same _ _ e
-counts_choice DotToken tree e = tt
-counts_choice other tree e = tt
+counts_choice (NumberToken x) tree e = e
+counts_choice other tree e = counts_upper other (close_choice None tree) e
 
 counts_literal : (side : Side) (t : Token) (tree : Tree) → Counts (NextLiteral side) tree → AllCount (next_literal side t) (add_literal t tree)
 counts_literal side NotToken tree e = e
 counts_literal side (NameToken name) tree e = e
+counts_literal side MinusToken tree e = e
 counts_literal side (NumberToken x) tree e = same _ _ e
 counts_literal side (VariableToken name) tree e = same _ _ e
 counts_literal side AnonymousToken tree e = one_more _ _ e
@@ -259,9 +275,10 @@ counts_after_operator side (VariableToken name) tree e = counts_right side (Vari
 counts_after_operator side AnonymousToken tree e = counts_right side AnonymousToken tree e
 counts_after_operator side other tree e = tt
 
-counts_atom : (role : Role) (t : Token) (place : Place) (tree : Tree) → before_atom role (atom_frame tree) ≡ numbers_from 1 tree.anonymous → AllCount (next_atom role t) (add_name t tree)
-counts_atom role (NameToken name) place tree e = e
-counts_atom role other place tree e = tt
+counts_atom : (role : Role) (t : Token) (state : State) (tree : Tree) → before_atom role (atom_frame tree) ≡ numbers_from 1 tree.anonymous → AllCount (next_atom role t) (add_name t tree)
+counts_atom role (NameToken name) state tree e = e
+counts_atom role MinusToken state tree e = e
+counts_atom role other state tree e = tt
 
 counts_behind : (role : Role) (t : Token) (tree : Tree) → Counts (behind role) tree → AllCount (next_behind role t) (add_behind role t tree)
 counts_behind First t tree e = counts_head t tree e
@@ -287,6 +304,14 @@ counts_name : (role : Role) (t : Token) (tree : Tree) → Counts (AfterName role
 counts_name role LeftParenToken tree e = same _ _ e
 counts_name role other tree e = counts_bare_name role other tree e
 
+counts_minus : (role : Role) (t : Token) (tree : Tree) → Counts (AfterMinus role) tree → AllCount (next_minus role t) (add_negated t tree)
+counts_minus role (NameToken name) tree e = e
+counts_minus role other tree e = tt
+
+counts_negated : (role : Role) (t : Token) (tree : Tree) → Counts (AfterNegated role) tree → AllCount (next_negated role t) (add_after_negated role t tree)
+counts_negated role LeftParenToken tree e = same _ _ e
+counts_negated role other tree e = counts_behind role other (add_bare role tree) (counts_bare role tree e)
+
 counts_next_argument : (role : Role) (t : Token) (tree : Tree) → of_arguments role tree ≡ numbers_from 1 tree.anonymous → AllCount (next_argument role t) (add_next_argument t tree)
 counts_next_argument role (NumberToken x) tree e = e
 counts_next_argument role (NameToken name) tree e = counts_argument role (NameToken name) tree e
@@ -294,7 +319,7 @@ counts_next_argument role (VariableToken name) tree e = counts_argument role (Va
 counts_next_argument role AnonymousToken tree e = counts_argument role AnonymousToken tree e
 counts_next_argument role other tree e = tt
 
--- a whole atom's place is no end of a statement, so it counts as any other
+-- a whole atom's state is no end of a statement, so it counts as any other
 whole_counts : (role : Role) (tree : Tree) → Counts (behind role) tree → AllCount (Some (behind role)) tree
 whole_counts role tree e = e
 
@@ -322,16 +347,18 @@ counts_high (NumberToken x) tree e = counts_number Wide (Range tree.low x) tree 
 counts_high other tree e = tt
 
 -- a token that may come keeps the count
-pub counts_on : (f : Bool) (place : Place) (t : Token) (tree : Tree) → Counts place tree → AllCount (next_place f place t) (add place t tree)
+pub counts_on : (f : Bool) (state : State) (t : Token) (tree : Tree) → Counts state tree → AllCount (next_state f state t) (add state t tree)
 counts_on f Start t tree e = counts_start t tree
 counts_on f Statement t tree e = counts_statement f t tree
 counts_on f NextHead t tree e = counts_atom Further t NextHead tree e
 counts_on f AfterHead t tree e = counts_head t tree e
 counts_on f AfterFact t tree e = counts_fact t tree
+counts_on f AfterLower t tree e = counts_lower t tree e
 counts_on f FirstElement t tree e = counts_first_element t tree e
 counts_on f NextElement t tree e = counts_atom Chosen t NextElement tree e
 counts_on f AfterChosen t tree e = counts_chosen t tree e
 counts_on f AfterChoice t tree e = counts_choice t tree e
+counts_on f AfterUpper t tree e = counts_upper t tree e
 counts_on f (FirstLiteral side) t tree e = counts_first_literal side t tree e
 counts_on f (NextLiteral side) t tree e = counts_literal side t tree e
 counts_on f (AfterNot side) t tree e = counts_atom (Negative side) t (AfterNot side) tree e
@@ -339,6 +366,8 @@ counts_on f (AfterLeft side) t tree e = counts_left side t tree e
 counts_on f (AfterOperator side) t tree e = counts_after_operator side t tree e
 counts_on f (AfterLiteral side) t tree e = counts_after_literal side t tree e
 counts_on f (AfterName role) t tree e = counts_name role t tree e
+counts_on f (AfterMinus role) t tree e = counts_minus role t tree e
+counts_on f (AfterNegated role) t tree e = counts_negated role t tree e
 counts_on f (FirstArgument role) t tree e = counts_first_argument role t tree e
 counts_on f (NextArgument role) t tree e = counts_next_argument role t tree e
 counts_on f (AfterArgument role) t tree e = counts_after_argument role t tree e

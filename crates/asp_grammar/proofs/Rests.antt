@@ -1,6 +1,6 @@
--- What may still come: at each place, the tokens with which the tree becomes a program.
+-- What may still come: in each state, the tokens with which the tree becomes a program.
 use Rattle.std.proofs.Common.{ℕ, ◌≡◌, ◌⊎◌, refl, sym, subst, Bool, true, false, List, [], ◌∷◌, ◌++◌, append_assoc, append-nil}
-use Rattle.std.specs.Prelude.{ℤ, pos, IsTrue, Option, Some, None}
+use Rattle.std.specs.Prelude.{ℤ, pos, IsTrue, Option, Some, None, codes}
 use Rattle.asp_defs.specs.declared.syntax.Quant.{Quant}
 use Rattle.asp_defs.specs.declared.syntax.Op.{Op}
 use Rattle.asp_defs.specs.declared.syntax.Op.TheVariants.{Eq}
@@ -15,15 +15,15 @@ use Rattle.asp_defs.specs.declared.syntax.Head.TheVariants.{Disj, Choice}
 use Rattle.asp_defs.specs.declared.syntax.Rule.{Rule}
 use Rattle.asp_defs.specs.declared.syntax.Part.{Part}
 use Rattle.asp_defs.specs.declared.syntax.Program.{Program}
-use Rattle.asp_defs.specs.Tokens.{Token, DirectiveToken, NumberToken, ArrowToken, ColonToken, DotToken, DotsToken, RightParenToken, RightBraceToken}
-use Rattle.asp_defs.specs.Grammar.{Production, AllAt, JoinedAt, AnyJoinedAt, is_comma, is_semicolon, is_or, is_operator, TermAt, WideTermAt, ArgumentsAt, AtomAt, LiteralAt, SignedBodyAt, ElementAt, IsNumbered, StatementAt, quant_word, LevelAt, ConstraintPartAt}
+use Rattle.asp_defs.specs.Tokens.{Token, DirectiveToken, NameToken, NumberToken, ArrowToken, ColonToken, DotToken, DotsToken, RightParenToken, LeftBraceToken, RightBraceToken}
+use Rattle.asp_defs.specs.Grammar.{Production, AllAt, JoinedAt, AnyJoinedAt, is_comma, is_semicolon, is_or, is_operator, TermAt, WideTermAt, ArgumentsAt, AtomAt, LiteralAt, SignedBodyAt, ElementAt, BoundAt, IsNumbered, StatementAt, quant_word, LevelAt, ConstraintPartAt}
 use Rattle.asp_defs.proofs.Numbering.{make_atom, make_element, make_rule}
-use Rattle.asp_grammar.specs.declared.place.Side.{Side}
-use Rattle.asp_grammar.specs.declared.place.Side.TheVariants.{Body, Condition}
-use Rattle.asp_grammar.specs.declared.place.Role.{Role}
-use Rattle.asp_grammar.specs.declared.place.Role.TheVariants.{First, Wide, Further, Chosen, Positive, Negative}
-use Rattle.asp_grammar.specs.declared.place.Place.{Place}
-use Rattle.asp_grammar.specs.declared.place.Place.TheVariants.{Start, Statement, NextHead, AfterHead, AfterFact, FirstElement, NextElement, AfterChosen, AfterChoice, FirstLiteral, NextLiteral, AfterNot, AfterLeft, AfterOperator, AfterLiteral, AfterName, FirstArgument, NextArgument, AfterArgument, AfterNumber, AfterDots}
+use Rattle.asp_grammar.specs.declared.state.Side.{Side}
+use Rattle.asp_grammar.specs.declared.state.Side.TheVariants.{Body, Condition}
+use Rattle.asp_grammar.specs.declared.state.Role.{Role}
+use Rattle.asp_grammar.specs.declared.state.Role.TheVariants.{First, Wide, Further, Chosen, Positive, Negative}
+use Rattle.asp_grammar.specs.declared.state.State.{State}
+use Rattle.asp_grammar.specs.declared.state.State.TheVariants.{Start, Statement, NextHead, AfterHead, AfterFact, AfterLower, FirstElement, NextElement, AfterChosen, AfterChoice, AfterUpper, FirstLiteral, NextLiteral, AfterNot, AfterLeft, AfterOperator, AfterLiteral, AfterName, AfterMinus, AfterNegated, FirstArgument, NextArgument, AfterArgument, AfterNumber, AfterDots}
 use Rattle.asp_grammar.specs.declared.tree.Tree.{Tree}
 
 -- ---- lists: some of whose parts are done
@@ -114,8 +114,13 @@ HeadEnd tree p head ts = (body : List Literal) × (rest : List Token) × SignedB
 abbrev pub AtomsEnd : Tree → Program → List Atom → List Token → Type 0
 AtomsEnd tree p atoms ts = HeadEnd tree p (Disj atoms) ts
 
+-- behind the closing brace of a choice
+abbrev pub ChoiceEnd : Tree → Program → List Element → List Token → Type 0
+ChoiceEnd tree p elements ts =
+    (upper : Option ℤ) × (mid : List Token) × BoundAt upper ts mid × HeadEnd tree p (Choice tree.lower elements upper) mid
+
 abbrev pub ElementsEnd : Tree → Program → List Element → List Token → Type 0
-ElementsEnd tree p elements ts = (rest : List Token) × (ts ≡ RightBraceToken ∷ rest) × HeadEnd tree p (Choice elements) rest
+ElementsEnd tree p elements ts = (rest : List Token) × (ts ≡ RightBraceToken ∷ rest) × ChoiceEnd tree p elements rest
 
 abbrev pub AtomsRest : Tree → Program → List Atom → List Token → Type 0
 AtomsRest tree p atoms ts = Rest is_or AtomAt (AtomsEnd tree p) atoms ts
@@ -189,17 +194,20 @@ Interval Wide tree p ts = Dots tree p ts
 Interval role tree p ts = ⊥
 
 -- the tokens that make the tree a program
-abbrev pub Completes : Place → Tree → List Token → Program → Type 0
+abbrev pub Completes : State → Tree → List Token → Program → Type 0
 Completes Start tree ts p =
     (quant : Quant) × (next : List Token) × (ts ≡ DirectiveToken (quant_word quant) ∷ next) × Between tree.in_constraint tree.levels quant tree.rules next p
 Completes Statement tree ts p = Between tree.in_constraint tree.levels tree.quant tree.rules ts p
 Completes NextHead tree ts p = Next is_or AtomAt (AtomsEnd tree p) tree.atoms ts
 Completes AfterHead tree ts p = AtomsRest tree p tree.atoms ts
 Completes AfterFact tree ts p = Dotted tree p (make_rule (Disj tree.atoms) []) ts
+Completes AfterLower tree ts p =
+    (next : List Token) × (ts ≡ LeftBraceToken ∷ next) × Any is_semicolon ElementAt (ElementsEnd tree p) tree.elements next
 Completes FirstElement tree ts p = Any is_semicolon ElementAt (ElementsEnd tree p) tree.elements ts
 Completes NextElement tree ts p = Next is_semicolon ElementAt (ElementsEnd tree p) tree.elements ts
 Completes AfterChosen tree ts p = ChosenEnd tree p tree.element ts
-Completes AfterChoice tree ts p = HeadEnd tree p tree.head ts
+Completes AfterChoice tree ts p = ChoiceEnd tree p tree.elements ts
+Completes AfterUpper tree ts p = HeadEnd tree p tree.head ts
 Completes (FirstLiteral side) tree ts p = Any is_comma LiteralAt (LiteralsEnd side (rule_frame tree) p) tree.literals ts
 Completes (NextLiteral side) tree ts p = Next is_comma LiteralAt (LiteralsEnd side (rule_frame tree) p) tree.literals ts
 Completes (AfterNot side) tree ts p =
@@ -208,6 +216,9 @@ Completes (AfterLeft side) tree ts p = Compared side tree p tree.left ts
 Completes (AfterOperator side) tree ts p = RightSide side tree p tree.left tree.op ts
 Completes (AfterLiteral side) tree ts p = LiteralsRest side tree p tree.literals ts
 Completes (AfterName role) tree ts p = Ways role (atom_frame tree) p (NameEnd tree.name ts) ⊎ LeftName role tree p ts
+Completes (AfterMinus role) tree ts p =
+    (name : List ℕ) × (next : List Token) × (ts ≡ NameToken name ∷ next) × Ways role (atom_frame tree) p (NameEnd (codes "-" ++ name) next)
+Completes (AfterNegated role) tree ts p = Ways role (atom_frame tree) p (NameEnd tree.name ts)
 Completes (FirstArgument role) tree ts p = Ways role (atom_frame tree) p (λ At End. Any is_comma At (ArgumentsEnd tree.name End) tree.args ts)
 Completes (NextArgument role) tree ts p = Ways role (atom_frame tree) p (λ At End. Next is_comma At (ArgumentsEnd tree.name End) tree.args ts)
 Completes (AfterArgument role) tree ts p = Ways role (atom_frame tree) p (λ At End. Rest is_comma At (ArgumentsEnd tree.name End) tree.args ts)
@@ -216,6 +227,6 @@ Completes (AfterNumber role) tree ts p =
 Completes AfterDots tree ts p = High tree p ts
 
 -- the same behind a token that may come
-abbrev pub Then : Option Place → Tree → List Token → Program → Type 0
+abbrev pub Then : Option State → Tree → List Token → Program → Type 0
 Then None tree ts p = ⊥
-Then (Some place) tree ts p = Completes place tree ts p
+Then (Some state) tree ts p = Completes state tree ts p

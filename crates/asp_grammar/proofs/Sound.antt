@@ -16,20 +16,20 @@ use Rattle.asp_defs.specs.declared.syntax.Head.TheVariants.{Disj, Choice}
 use Rattle.asp_defs.specs.declared.syntax.Rule.{Rule}
 use Rattle.asp_defs.specs.declared.syntax.Part.{Part}
 use Rattle.asp_defs.specs.declared.syntax.Program.{Program}
-use Rattle.asp_defs.specs.Tokens.{Token, DirectiveToken, NotToken, NameToken, VariableToken, AnonymousToken, NumberToken, ArrowToken, ColonToken, DotToken, DotsToken, CommaToken, SemicolonToken, BarToken, LeftParenToken, RightParenToken, LeftBraceToken, RightBraceToken, EqToken, NeToken, NeAngleToken, LtToken, LeToken, GtToken, GeToken}
-use Rattle.asp_defs.specs.Grammar.{Production, AllAt, AnyJoinedAt, is_comma, is_semicolon, is_or, is_operator, TermAt, WideTermAt, ArgumentsAt, AtomAt, LiteralAt, ElementAt, head_anonymous, atom_anonymous, StatementAt, quant_word}
+use Rattle.asp_defs.specs.Tokens.{Token, DirectiveToken, NotToken, NameToken, VariableToken, AnonymousToken, NumberToken, MinusToken, ArrowToken, ColonToken, DotToken, DotsToken, CommaToken, SemicolonToken, BarToken, LeftParenToken, RightParenToken, LeftBraceToken, RightBraceToken, EqToken, NeToken, NeAngleToken, LtToken, LeToken, GtToken, GeToken}
+use Rattle.asp_defs.specs.Grammar.{Production, AllAt, AnyJoinedAt, is_comma, is_semicolon, is_or, is_operator, TermAt, WideTermAt, ArgumentsAt, PredicateAt, AtomAt, LiteralAt, ElementAt, BoundAt, head_anonymous, atom_anonymous, StatementAt, quant_word}
 use Rattle.asp_defs.proofs.Numbering.{make_atom, make_element, make_rule}
 use Rattle.asp_defs.proofs.TextRefutations.{clash}
-use Rattle.asp_grammar.specs.declared.place.Directive.{Directive}
-use Rattle.asp_grammar.specs.declared.place.Directive.TheVariants.{Level, Constraint}
-use Rattle.asp_grammar.specs.declared.place.Side.{Side}
-use Rattle.asp_grammar.specs.declared.place.Side.TheVariants.{Body, Condition}
-use Rattle.asp_grammar.specs.declared.place.Role.{Role}
-use Rattle.asp_grammar.specs.declared.place.Role.TheVariants.{First, Wide, Further, Chosen, Positive, Negative}
-use Rattle.asp_grammar.specs.declared.place.Place.{Place}
-use Rattle.asp_grammar.specs.declared.place.Place.TheVariants.{Start, Statement, NextHead, AfterHead, AfterFact, FirstElement, NextElement, AfterChosen, AfterChoice, FirstLiteral, NextLiteral, AfterNot, AfterLeft, AfterOperator, AfterLiteral, AfterName, FirstArgument, NextArgument, AfterArgument, AfterNumber, AfterDots}
+use Rattle.asp_grammar.specs.declared.state.Directive.{Directive}
+use Rattle.asp_grammar.specs.declared.state.Directive.TheVariants.{Level, Constraint}
+use Rattle.asp_grammar.specs.declared.state.Side.{Side}
+use Rattle.asp_grammar.specs.declared.state.Side.TheVariants.{Body, Condition}
+use Rattle.asp_grammar.specs.declared.state.Role.{Role}
+use Rattle.asp_grammar.specs.declared.state.Role.TheVariants.{First, Wide, Further, Chosen, Positive, Negative}
+use Rattle.asp_grammar.specs.declared.state.State.{State}
+use Rattle.asp_grammar.specs.declared.state.State.TheVariants.{Start, Statement, NextHead, AfterHead, AfterFact, AfterLower, FirstElement, NextElement, AfterChosen, AfterChoice, AfterUpper, FirstLiteral, NextLiteral, AfterNot, AfterLeft, AfterOperator, AfterLiteral, AfterName, AfterMinus, AfterNegated, FirstArgument, NextArgument, AfterArgument, AfterNumber, AfterDots}
 use Rattle.asp_grammar.specs.declared.tree.Tree.{Tree}
-use Rattle.asp_grammar.specs.Machine.{directive_of, open_head, after_first, after_directive, first_directive, add_directive, behind, bare_atom, whole_atom, add_atom, add_bare, add_whole, add_argument, add_name, op_of, is_operator_sign, next_start, next_statement, next_atom, next_head, next_fact, next_first_element, next_chosen, next_choice, next_literal, next_close, next_first_literal, next_after_literal, next_left, next_right, next_behind, next_bare, next_name, next_argument, next_first_argument, next_after_argument, next_dots, next_number, next_high, next_place, add_start, add_statement, add_head, add_first_element, add_chosen, add_choice, add_literal, add_close, add_first_literal, add_right, add_behind, add_bare_name, add_after_name, add_next_argument, add_first_argument, add_after_argument, add_after_number, add_high, add}
+use Rattle.asp_grammar.specs.Machine.{directive_of, open_atoms, open_choice, close_choice, after_first, after_directive, first_directive, add_directive, behind, bare_atom, whole_atom, add_atom, add_bare, add_whole, add_argument, add_name, op_of, is_operator_sign, next_start, next_statement, next_atom, next_head, next_fact, next_lower, next_first_element, next_chosen, next_upper, next_choice, next_literal, next_close, next_first_literal, next_after_literal, next_left, next_right, next_behind, next_bare, next_name, next_minus, next_negated, next_argument, next_first_argument, next_after_argument, next_dots, next_number, next_high, next_state, add_start, add_statement, add_head, add_chosen, add_upper, add_choice, add_literal, add_close, add_first_literal, add_right, add_behind, add_bare_name, add_after_name, add_negated, add_after_negated, add_next_argument, add_first_argument, add_after_argument, add_after_number, add_high, add}
 use Rattle.asp_grammar.proofs.Rests.{Rest, Next, Any, rest_close, any_close, rest_next, any_next, joined, atom_frame, rule_frame, Between, Dotted, HeadEnd, ElementsEnd, LiteralsEnd, Compared, AtomEnd, Ways, ArgumentsEnd, NameEnd, Dots, Interval, Completes, Then}
 use Rattle.asp_grammar.proofs.Numbers.{numbered, Counts, counts_bare}
 
@@ -122,28 +122,40 @@ statement_more false levels quant rules p r ts mid s (more, end, parts, last, al
   e ∙ ap (λ rs. levels ++ make_part quant rs ∷ parts) (append_assoc rules (r ∷ []) more),
 )
 
--- a statement that begins with a name
-back_name_statement : (name : List ℕ) (tree : Tree) (ts : List Token) (p : Program) → Completes (AfterName First) (open_head name tree) ts p → Completes Statement tree (NameToken name ∷ ts) p
-back_name_statement name tree ts p (inl (inl (args, mid, h, rest))) = by_end rest.end
+-- a statement that begins with an atom
+first_atom : (name : List ℕ) (tree : Tree) (us ts : List Token) (p : Program) → PredicateAt name us ts → Ways First (atom_frame (open_atoms tree)) p (NameEnd name ts) → Completes Statement tree us p
+first_atom name tree us ts p n (inl (args, mid, h, rest)) = by_end rest.end
   where
-    by_end : HeadEnd tree p (Disj (make_atom name args ∷ rest.more)) rest.mid → Completes Statement tree (NameToken name ∷ ts) p
+    by_end : HeadEnd tree p (Disj (make_atom name args ∷ rest.more)) rest.mid → Completes Statement tree us p
     by_end (body, last, signed, (numbers, k)) =
-        statement_more tree.in_constraint tree.levels tree.quant tree.rules p (make_rule (Disj (make_atom name args ∷ rest.more)) body) (NameToken name ∷ ts) last
-        (numbers, inr (inl (rest.mid, joined is_or AtomAt (make_atom name args) rest.more (NameToken name ∷ ts) mid rest.mid (ts, refl, h) rest.parts, signed))) k
-back_name_statement name tree ts p (inl (inr (args, mid, h, (last, e, (numbers, k))))) =
-    statement_more tree.in_constraint tree.levels tree.quant tree.rules p (make_rule (Disj (make_atom name args ∷ [])) []) (NameToken name ∷ ts) last
-    (numbers, inl (make_atom name args, refl, refl, (ts, refl, subst (ArgumentsAt WideTermAt args ts) e h))) k
-back_name_statement name tree ts p (inr never) = absurd never
+        statement_more tree.in_constraint tree.levels tree.quant tree.rules p (make_rule (Disj (make_atom name args ∷ rest.more)) body) us last
+        (numbers, inr (inl (rest.mid, joined is_or AtomAt (make_atom name args) rest.more us mid rest.mid (ts, n, h) rest.parts, signed))) k
+first_atom name tree us ts p n (inr (args, mid, h, (last, e, (numbers, k)))) =
+    statement_more tree.in_constraint tree.levels tree.quant tree.rules p (make_rule (Disj (make_atom name args ∷ [])) []) us last
+    (numbers, inl (make_atom name args, refl, refl, (ts, n, subst (ArgumentsAt WideTermAt args ts) e h))) k
+
+-- a statement that begins with a choice
+choice_statement : (lower : Option ℤ) (tree : Tree) (us ts : List Token) (p : Program) → BoundAt lower us (LeftBraceToken ∷ ts) → Any is_semicolon ElementAt (ElementsEnd (open_choice lower tree) p) [] ts → Completes Statement tree us p
+choice_statement lower tree us ts p l h = by_end h.end
+  where
+    by_end : ElementsEnd (open_choice lower tree) p h.all h.mid → Completes Statement tree us p
+    by_end (mid, e, (upper, last, u, (body, rest, signed, (numbers, k)))) =
+        statement_more tree.in_constraint tree.levels tree.quant tree.rules p (make_rule (Choice lower h.all upper) body) us rest
+        (numbers, inr (inl (last, (ts, mid, l, subst (AnyJoinedAt is_semicolon ElementAt h.all ts) e h.parts, u), signed))) k
+
+-- a minus and a name are the name of an atom
+minus_name : (name : List ℕ) (ts next : List Token) → ts ≡ NameToken name ∷ next → PredicateAt (codes "-" ++ name) (MinusToken ∷ ts) next
+minus_name name ts next e = inr (name, refl, ap (λ us. MinusToken ∷ us) e)
 
 back_statement : (t : Token) (tree : Tree) (ts : List Token) (p : Program) → Then (next_statement tree.in_constraint t) (add_statement t tree) ts p → Completes Statement tree (t ∷ ts) p
 back_statement (DirectiveToken word) tree ts p h = back_directive word tree ts p (directive_of word) tree.in_constraint refl refl h
-back_statement (NameToken name) tree ts p h = back_name_statement name tree ts p h
-back_statement LeftBraceToken tree ts p h = by_end h.end
-  where
-    by_end : ElementsEnd tree p h.all h.mid → Completes Statement tree (LeftBraceToken ∷ ts) p
-    by_end (mid, e, (body, last, signed, (numbers, k))) =
-        statement_more tree.in_constraint tree.levels tree.quant tree.rules p (make_rule (Choice h.all) body) (LeftBraceToken ∷ ts) last
-        (numbers, inr (inl (mid, (ts, refl, subst (AnyJoinedAt is_semicolon ElementAt h.all ts) e h.parts), signed))) k
+back_statement (NameToken name) tree ts p (inl h) = first_atom name tree (NameToken name ∷ ts) ts p (inl refl) h
+back_statement (NameToken name) tree ts p (inr never) = absurd never
+back_statement MinusToken tree ts p (name, next, e, h) =
+    first_atom (codes "-" ++ name) tree (MinusToken ∷ ts) next p (minus_name name ts next e) h
+back_statement (NumberToken x) tree ts p (next, e, h) =
+    choice_statement (Some x) tree (NumberToken x ∷ ts) next p (ap (λ us. NumberToken x ∷ us) e) h
+back_statement LeftBraceToken tree ts p h = choice_statement None tree (LeftBraceToken ∷ ts) ts p refl h
 back_statement ArrowToken tree ts p h = by_end h.end
   where
     by_end : Dotted tree p (make_rule (Disj []) h.all) h.mid → Completes Statement tree (ArrowToken ∷ ts) p
@@ -175,25 +187,40 @@ back_fact : (t : Token) (tree : Tree) (ts : List Token) (p : Program) → Counts
 back_fact DotToken tree ts p e h = (ts, refl, (numbered (make_rule (Disj tree.atoms) []) tree.anonymous (append-nil (flat_map atom_anonymous tree.atoms) ∙ e), h))
 back_fact other tree ts p e h = absurd h
 
+further_atom : (name : List ℕ) (tree : Tree) (us ts : List Token) (p : Program) → PredicateAt name us ts → Ways Further (atom_frame tree) p (NameEnd name ts) → Completes NextHead tree us p
+further_atom name tree us ts p n (args, mid, h, rest) = record { first = make_atom name args; mid = mid; part = (ts, n, h); rest = rest }
+
 back_next_head : (t : Token) (tree : Tree) (ts : List Token) (p : Program) → Then (next_atom Further t) (add_name t tree) ts p → Completes NextHead tree (t ∷ ts) p
-back_next_head (NameToken name) tree ts p (inl (args, mid, h, rest)) = record { first = make_atom name args; mid = mid; part = (ts, refl, h); rest = rest }
+back_next_head (NameToken name) tree ts p (inl h) = further_atom name tree (NameToken name ∷ ts) ts p (inl refl) h
 back_next_head (NameToken name) tree ts p (inr never) = absurd never
+back_next_head MinusToken tree ts p (name, next, e, h) =
+    further_atom (codes "-" ++ name) tree (MinusToken ∷ ts) next p (minus_name name ts next e) h
 back_next_head other tree ts p h = absurd h
 
 -- ---- elements
 
-back_next_element : (t : Token) (tree : Tree) (ts : List Token) (p : Program) → Then (next_atom Chosen t) (add_name t tree) ts p → Completes NextElement tree (t ∷ ts) p
-back_next_element (NameToken name) tree ts p (inl (args, mid, h, (cond, last, signed, rest))) = record {
+chosen_atom : (name : List ℕ) (tree : Tree) (us ts : List Token) (p : Program) → PredicateAt name us ts → Ways Chosen (atom_frame tree) p (NameEnd name ts) → Completes NextElement tree us p
+chosen_atom name tree us ts p n (args, mid, h, (cond, last, signed, rest)) = record {
   first = make_element (make_atom name args) cond;
   mid = last;
-  part = (mid, (ts, refl, h), signed);
+  part = (mid, (ts, n, h), signed);
   rest = rest;
 }
+
+back_next_element : (t : Token) (tree : Tree) (ts : List Token) (p : Program) → Then (next_atom Chosen t) (add_name t tree) ts p → Completes NextElement tree (t ∷ ts) p
+back_next_element (NameToken name) tree ts p (inl h) = chosen_atom name tree (NameToken name ∷ ts) ts p (inl refl) h
 back_next_element (NameToken name) tree ts p (inr never) = absurd never
+back_next_element MinusToken tree ts p (name, next, e, h) =
+    chosen_atom (codes "-" ++ name) tree (MinusToken ∷ ts) next p (minus_name name ts next e) h
 back_next_element other tree ts p h = absurd h
 
-back_first_element : (t : Token) (tree : Tree) (ts : List Token) (p : Program) → Then (next_first_element t) (add_first_element t tree) ts p → Completes FirstElement tree (t ∷ ts) p
+back_lower : (t : Token) (tree : Tree) (ts : List Token) (p : Program) → Then (next_lower t) tree ts p → Completes AfterLower tree (t ∷ ts) p
+back_lower LeftBraceToken tree ts p h = (ts, refl, h)
+back_lower other tree ts p h = absurd h
+
+back_first_element : (t : Token) (tree : Tree) (ts : List Token) (p : Program) → Then (next_first_element t) (add_name t tree) ts p → Completes FirstElement tree (t ∷ ts) p
 back_first_element (NameToken name) tree ts p h = any_next tree.elements (NameToken name ∷ ts) (back_next_element (NameToken name) tree ts p h)
+back_first_element MinusToken tree ts p h = any_next tree.elements (MinusToken ∷ ts) (back_next_element MinusToken tree ts p h)
 back_first_element RightBraceToken tree ts p h = any_close tree.elements (RightBraceToken ∷ ts) (ts, refl, h)
 back_first_element other tree ts p h = absurd h
 
@@ -205,10 +232,14 @@ back_chosen RightBraceToken tree ts p h =
     ([], RightBraceToken ∷ ts, inl (refl, refl), rest_close (tree.elements ++ make_element tree.element [] ∷ []) (RightBraceToken ∷ ts) (ts, refl, h))
 back_chosen other tree ts p h = absurd h
 
+back_upper : (t : Token) (tree : Tree) (ts : List Token) (p : Program) → Counts AfterUpper tree → Then (next_upper t) (add_upper t tree) ts p → Completes AfterUpper tree (t ∷ ts) p
+back_upper ArrowToken tree ts p e h = back_arrow tree p tree.head ts h
+back_upper DotToken tree ts p e h = back_dot tree p tree.head ts e h
+back_upper other tree ts p e h = absurd h
+
 back_choice : (t : Token) (tree : Tree) (ts : List Token) (p : Program) → Counts AfterChoice tree → Then (next_choice t) (add_choice t tree) ts p → Completes AfterChoice tree (t ∷ ts) p
-back_choice ArrowToken tree ts p e h = back_arrow tree p tree.head ts h
-back_choice DotToken tree ts p e h = back_dot tree p tree.head ts e h
-back_choice other tree ts p e h = absurd h
+back_choice (NumberToken x) tree ts p e h = (Some x, ts, refl, h)
+back_choice other tree ts p e h = (None, other ∷ ts, refl, back_upper other (close_choice None tree) ts p e h)
 
 -- ---- literals
 
@@ -220,11 +251,15 @@ compared_next side x t tree ts p left (op, sign, mid, o, e, (y, last, right, res
   rest = rest;
 }
 
+positive_atom : (side : Side) (name : List ℕ) (tree : Tree) (us ts : List Token) (p : Program) → PredicateAt name us ts → Ways (Positive side) (atom_frame tree) p (NameEnd name ts) → Completes (NextLiteral side) tree us p
+positive_atom side name tree us ts p n (args, mid, h, rest) = record { first = Pos (make_atom name args); mid = mid; part = (ts, n, h); rest = rest }
+
 back_literal : (side : Side) (t : Token) (tree : Tree) (ts : List Token) (p : Program) → Then (next_literal side t) (add_literal t tree) ts p → Completes (NextLiteral side) tree (t ∷ ts) p
 back_literal side NotToken tree ts p (a, mid, h, rest) = record { first = Neg a; mid = mid; part = (ts, refl, h); rest = rest }
-back_literal side (NameToken name) tree ts p (inl (args, mid, h, rest)) =
-    record { first = Pos (make_atom name args); mid = mid; part = (ts, refl, h); rest = rest }
+back_literal side (NameToken name) tree ts p (inl h) = positive_atom side name tree (NameToken name ∷ ts) ts p (inl refl) h
 back_literal side (NameToken name) tree ts p (inr h) = compared_next side (Sym name) (NameToken name) tree ts p refl h
+back_literal side MinusToken tree ts p (name, next, e, h) =
+    positive_atom side (codes "-" ++ name) tree (MinusToken ∷ ts) next p (minus_name name ts next e) h
 back_literal side (NumberToken x) tree ts p h = compared_next side (Int x) (NumberToken x) tree ts p refl h
 back_literal side (VariableToken name) tree ts p h = compared_next side (Var name) (VariableToken name) tree ts p refl h
 back_literal side AnonymousToken tree ts p h = compared_next side (Anon (suc tree.anonymous)) AnonymousToken tree ts p refl h
@@ -253,8 +288,10 @@ back_after_literal side CommaToken tree ts p e h = rest_next tree.literals ts Co
 back_after_literal side other tree ts p e h = rest_close tree.literals (other ∷ ts) (back_close side other tree ts p e h)
 
 back_not : (side : Side) (t : Token) (tree : Tree) (ts : List Token) (p : Program) → Then (next_atom (Negative side) t) (add_name t tree) ts p → Completes (AfterNot side) tree (t ∷ ts) p
-back_not side (NameToken name) tree ts p (inl (args, mid, h, rest)) = (make_atom name args, mid, (ts, refl, h), rest)
+back_not side (NameToken name) tree ts p (inl (args, mid, h, rest)) = (make_atom name args, mid, (ts, inl refl, h), rest)
 back_not side (NameToken name) tree ts p (inr never) = absurd never
+back_not side MinusToken tree ts p (name, next, e, (args, mid, h, rest)) =
+    (make_atom (codes "-" ++ name) args, mid, (next, minus_name name ts next e, h), rest)
 back_not side other tree ts p h = absurd h
 
 -- ---- comparisons
@@ -326,10 +363,13 @@ back_behind (Positive side) t tree ts p e h = back_after_literal side t tree ts 
 back_behind (Negative side) t tree ts p e h = back_after_literal side t tree ts p e h
 
 -- a name that is a whole atom
+back_whole : (role : Role) (t : Token) (tree : Tree) (ts : List Token) (p : Program) → Counts (AfterName role) tree → Then (next_behind role t) (add_behind role t (add_bare role tree)) ts p → Completes (AfterNegated role) tree (t ∷ ts) p
+back_whole role t tree ts p e h =
+    each_way role (atom_frame tree) p (λ At End. End (bare_atom tree) (t ∷ ts)) (NameEnd tree.name (t ∷ ts)) (λ At End has d. ([], t ∷ ts, inl (refl, refl), d))
+    (atom_way role (bare_atom tree) (record tree { name = [] }) (t ∷ ts) p (back_behind role t (add_bare role tree) ts p (counts_bare role tree e) h))
+
 bare_way : (role : Role) (t : Token) (tree : Tree) (ts : List Token) (p : Program) → Counts (AfterName role) tree → Then (next_behind role t) (add_behind role t (add_bare role tree)) ts p → Completes (AfterName role) tree (t ∷ ts) p
-bare_way role t tree ts p e h =
-    inl (each_way role (atom_frame tree) p (λ At End. End (bare_atom tree) (t ∷ ts)) (NameEnd tree.name (t ∷ ts)) (λ At End has d. ([], t ∷ ts, inl (refl, refl), d))
-    (atom_way role (bare_atom tree) (record tree { name = [] }) (t ∷ ts) p (back_behind role t (add_bare role tree) ts p (counts_bare role tree e) h)))
+bare_way role t tree ts p e h = inl (back_whole role t tree ts p e h)
 
 back_bare : (role : Role) (t : Token) (tree : Tree) (ts : List Token) (p : Program) → Counts (AfterName role) tree → Then (next_bare role t) (add_bare_name role t tree) ts p → Completes (AfterName role) tree (t ∷ ts) p
 back_bare (Positive side) t tree ts p e h = by_test (is_operator_sign t) refl h
@@ -349,10 +389,21 @@ open_way name ts At End h = by_end h.end
     by_end : ArgumentsEnd name End h.all h.mid → NameEnd name (LeftParenToken ∷ ts) At End
     by_end (rest, e, end) = (h.all, rest, inr (ts, refl, subst (AnyJoinedAt is_comma At h.all ts) e h.parts), end)
 
+open_ways : (role : Role) (tree : Tree) (ts : List Token) (p : Program) → Completes (FirstArgument role) (record tree { args = [] }) ts p → Completes (AfterNegated role) tree (LeftParenToken ∷ ts) p
+open_ways role tree ts p h =
+    each_way role (atom_frame tree) p (λ At End. Any is_comma At (ArgumentsEnd tree.name End) [] ts) (NameEnd tree.name (LeftParenToken ∷ ts)) (λ At End has k. open_way tree.name ts At End k) h
+
 back_name : (role : Role) (t : Token) (tree : Tree) (ts : List Token) (p : Program) → Counts (AfterName role) tree → Then (next_name role t) (add_after_name role t tree) ts p → Completes (AfterName role) tree (t ∷ ts) p
-back_name role LeftParenToken tree ts p e h =
-    inl (each_way role (atom_frame tree) p (λ At End. Any is_comma At (ArgumentsEnd tree.name End) [] ts) (NameEnd tree.name (LeftParenToken ∷ ts)) (λ At End has k. open_way tree.name ts At End k) h)
+back_name role LeftParenToken tree ts p e h = inl (open_ways role tree ts p h)
 back_name role other tree ts p e h = back_bare role other tree ts p e h
+
+back_negated : (role : Role) (t : Token) (tree : Tree) (ts : List Token) (p : Program) → Counts (AfterName role) tree → Then (next_negated role t) (add_after_negated role t tree) ts p → Completes (AfterNegated role) tree (t ∷ ts) p
+back_negated role LeftParenToken tree ts p e h = open_ways role tree ts p h
+back_negated role other tree ts p e h = back_whole role other tree ts p e h
+
+back_minus : (role : Role) (t : Token) (tree : Tree) (ts : List Token) (p : Program) → Then (next_minus role t) (add_negated t tree) ts p → Completes (AfterMinus role) tree (t ∷ ts) p
+back_minus role (NameToken name) tree ts p h = (name, ts, refl, h)
+back_minus role other tree ts p h = absurd h
 
 -- ---- arguments
 
@@ -426,16 +477,18 @@ back_high other tree ts p h = absurd h
 
 -- ---- one token
 
-pub back : (place : Place) (t : Token) (tree : Tree) (ts : List Token) (p : Program) → Counts place tree → Then (next_place tree.in_constraint place t) (add place t tree) ts p → Completes place tree (t ∷ ts) p
+pub back : (state : State) (t : Token) (tree : Tree) (ts : List Token) (p : Program) → Counts state tree → Then (next_state tree.in_constraint state t) (add state t tree) ts p → Completes state tree (t ∷ ts) p
 back Start t tree ts p e h = back_start t tree ts p h
 back Statement t tree ts p e h = back_statement t tree ts p h
 back NextHead t tree ts p e h = back_next_head t tree ts p h
 back AfterHead t tree ts p e h = back_head t tree ts p e h
 back AfterFact t tree ts p e h = back_fact t tree ts p e h
+back AfterLower t tree ts p e h = back_lower t tree ts p h
 back FirstElement t tree ts p e h = back_first_element t tree ts p h
 back NextElement t tree ts p e h = back_next_element t tree ts p h
 back AfterChosen t tree ts p e h = back_chosen t tree ts p h
 back AfterChoice t tree ts p e h = back_choice t tree ts p e h
+back AfterUpper t tree ts p e h = back_upper t tree ts p e h
 back (FirstLiteral side) t tree ts p e h = back_first_literal side t tree ts p e h
 back (NextLiteral side) t tree ts p e h = back_literal side t tree ts p h
 back (AfterNot side) t tree ts p e h = back_not side t tree ts p h
@@ -443,6 +496,8 @@ back (AfterLeft side) t tree ts p e h = back_left side t tree ts p h
 back (AfterOperator side) t tree ts p e h = back_right side t tree ts p h
 back (AfterLiteral side) t tree ts p e h = back_after_literal side t tree ts p e h
 back (AfterName role) t tree ts p e h = back_name role t tree ts p e h
+back (AfterMinus role) t tree ts p e h = back_minus role t tree ts p h
+back (AfterNegated role) t tree ts p e h = back_negated role t tree ts p e h
 back (FirstArgument role) t tree ts p e h = back_first_argument role t tree ts p h
 back (NextArgument role) t tree ts p e h = back_argument role t tree ts p h
 back (AfterArgument role) t tree ts p e h = back_after_argument role t tree ts p h

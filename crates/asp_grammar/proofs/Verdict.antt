@@ -10,11 +10,11 @@ use Rattle.asp_defs.specs.Tokens.{Token}
 use Rattle.asp_defs.specs.Grammar.{AllAt, LevelAt, IsProgram}
 use Rattle.asp_defs.specs.TextRefusals.{IsViable, IsNoProgram, Offends}
 use Rattle.asp_defs.proofs.TextRefutations.{clash}
-use Rattle.asp_grammar.specs.declared.place.Place.{Place}
-use Rattle.asp_grammar.specs.declared.place.Place.TheVariants.{Start, Statement}
+use Rattle.asp_grammar.specs.declared.state.State.{State}
+use Rattle.asp_grammar.specs.declared.state.State.TheVariants.{Start, Statement}
 use Rattle.asp_grammar.specs.declared.tree.Tree.{Tree}
 use Rattle.asp_grammar.specs.declared.tree.Builder.{Builder}
-use Rattle.asp_grammar.specs.Machine.{next_place, add, start, moved, step, run, finish_at, finish, finished}
+use Rattle.asp_grammar.specs.Machine.{next_state, add, start, moved, step, run, finish_at, finish, finished}
 use Rattle.asp_grammar.proofs.Complete.{programs_lead}
 use Rattle.asp_grammar.proofs.Rests.{Between, Completes, Then}
 use Rattle.asp_grammar.proofs.Numbers.{Counts, AllCount, counts_on}
@@ -46,19 +46,19 @@ finish_statement tree p false e = (
   sym (ap (λ (q : Program). q.levels) e) ∙ ap (λ rs. tree.levels ++ make_part tree.quant rs ∷ []) (sym (append-nil tree.rules)),
 )
 
-finish_completes : (place : Place) (tree : Tree) (p : Program) → finish_at place tree ≡ Some p → Completes place tree [] p
+finish_completes : (state : State) (tree : Tree) (p : Program) → finish_at state tree ≡ Some p → Completes state tree [] p
 finish_completes Statement tree p e = finish_statement tree p tree.in_constraint (ap (the p) e)
 finish_completes other tree p e = clash (ap is_some e)
 
-sound_token : (b : Builder) (t : Token) (ts : List Token) (p : Program) → ((c : Builder) → Counts c.place c.tree → finished (run c ts) ≡ Some p → Completes c.place c.tree ts p) → (o : Option Place) → AllCount o (add b.place t b.tree) → finished (elim (moved b t o) [ None ↦ None | Some c ↦ run c ts ]) ≡ Some p → Then o (add b.place t b.tree) ts p
+sound_token : (b : Builder) (t : Token) (ts : List Token) (p : Program) → ((c : Builder) → Counts c.state c.tree → finished (run c ts) ≡ Some p → Completes c.state c.tree ts p) → (o : Option State) → AllCount o (add b.state t b.tree) → finished (elim (moved b t o) [ None ↦ None | Some c ↦ run c ts ]) ≡ Some p → Then o (add b.state t b.tree) ts p
 sound_token b t ts p on None count e = clash (ap is_some e)
-sound_token b t ts p on (Some place) count e = on (record { place = place; tree = add b.place t b.tree }) count e
+sound_token b t ts p on (Some state) count e = on (record { state = state; tree = add b.state t b.tree }) count e
 
-sound : (ts : List Token) (b : Builder) (p : Program) → Counts b.place b.tree → finished (run b ts) ≡ Some p → Completes b.place b.tree ts p
-sound [] b p count e = finish_completes b.place b.tree p e
+sound : (ts : List Token) (b : Builder) (p : Program) → Counts b.state b.tree → finished (run b ts) ≡ Some p → Completes b.state b.tree ts p
+sound [] b p count e = finish_completes b.state b.tree p e
 sound (t ∷ ts) b p count e =
-    back b.place t b.tree ts p count
-    (sound_token b t ts p (λ c k f. sound ts c p k f) (next_place b.tree.in_constraint b.place t) (counts_on b.tree.in_constraint b.place t b.tree count) e)
+    back b.state t b.tree ts p count
+    (sound_token b t ts p (λ c k f. sound ts c p k f) (next_state b.tree.in_constraint b.state t) (counts_on b.tree.in_constraint b.state t b.tree count) e)
 
 start_completes : (ts : List Token) (p : Program) → Completes Start start.tree ts p → IsProgram ts p
 start_completes ts p (quant, next, e, (more, mid, parts, last, all, others, cons, f)) = (
@@ -93,7 +93,7 @@ some_found ts (Some p) e f = (p, found ts p e)
 
 pub viable : (ts : List Token) (b : Builder) → run start ts ≡ Some b → IsViable ts
 viable ts b e =
-    let c = closing b.tree.in_constraint b.place in
+    let c = closing b.tree.in_constraint b.state in
     let goes : is_some (finished (run start (ts ++ c.0))) ≡ true = ap (λ o. is_some (finished o)) (run_on start b ts c.0 e) ∙ sym (walks c.0 b) ∙ c.1 in
     let d = some_found (ts ++ c.0) (finished (run start (ts ++ c.0))) refl goes in
     (c.0, d.0, d.1)

@@ -5,7 +5,7 @@ use Rattle.asp_defs.specs.declared.syntax.Program.{Program}
 use Rattle.asp_defs.specs.Tokens.{Token}
 use Rattle.asp_defs.specs.Grammar.{IsText}
 use Rattle.asp_defs.specs.TextRefusals.{IsRefused}
-use Rattle.asp_grammar.specs.declared.place.Place.{Place}
+use Rattle.asp_grammar.specs.declared.state.State.{State}
 use Rattle.asp_grammar.specs.declared.tree.Tree.{Tree}
 use Rattle.asp_grammar.specs.Machine.{add, text_answer}
 
@@ -23,4 +23,4 @@ EveryTextIsAnswered = (bytes : List ℕ) → ((p : Program) × IsText bytes p) �
 
 -- a token adds at most one to the tree's count of nameless variables
 abbrev pub CountGrows : Type 0
-CountGrows = (place : Place) (t : Token) (tree : Tree) → (add place t tree).anonymous ≤ suc tree.anonymous
+CountGrows = (state : State) (t : Token) (tree : Tree) → (add state t tree).anonymous ≤ suc tree.anonymous

@@ -29,7 +29,13 @@ pub fn count_grows()
 pub fn answers()
     ensures close { text_answer texts.close_text ≡ Ok texts.close_program }
     ensures nameless { text_answer texts.nameless_text ≡ Ok texts.nameless_program }
+    ensures strong { text_answer texts.strong_text ≡ Ok texts.strong_program }
+    ensures bounds { text_answer texts.bounded_text ≡ Ok texts.bounded_program }
     ensures no_level { text_answer (codes "% none") ≡ Err faults.NoLevel }
     ensures unfinished { text_answer (codes "%@exists a :- b") ≡ Err faults.Unfinished }
     ensures two_names { text_answer (codes "%@exists a b.") ≡ Err (faults.Unexpected 11) }
+    ensures named_bound { text_answer (codes "%@exists {a} n.") ≡ Err (faults.Unexpected 13) }
+    ensures two_bounds { text_answer (codes "%@exists {a} 1 2.") ≡ Err (faults.Unexpected 15) }
+    ensures negated_side { text_answer (codes "%@exists :- -a = b.") ≡ Err (faults.Unexpected 15) }
+    ensures negated_argument { text_answer (codes "%@exists p(-a).") ≡ Err (faults.Unexpected 11) }
 {}

@@ -1,4 +1,4 @@
-use crate::place::Place;
+use crate::state::State;
 use asp_defs::{Atom, Element, Head, List, Literal, Name, Op, Part, Quant, Rule, Term};
 
 /// A program as far as it was read: its finished parts, and what of the open ones is known.
@@ -16,6 +16,8 @@ pub struct Tree {
     pub head: Head,
     /// The finished atoms of the open disjunction.
     pub atoms: List<Atom>,
+    /// The open choice's lower bound.
+    pub lower: Option<i32>,
     /// The finished elements of the open choice.
     pub elements: List<Element>,
     /// The open element's atom, once it is whole.
@@ -36,9 +38,9 @@ pub struct Tree {
     pub anonymous: u32,
 }
 
-/// The tokens so far: the place behind them, and what they are.
+/// The tokens so far: the state behind them, and what they are.
 #[derive(Debug, Drop)]
 pub struct Builder {
-    pub place: Place,
+    pub state: State,
     pub tree: Tree,
 }

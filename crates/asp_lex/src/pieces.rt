@@ -2,6 +2,8 @@
 ghost use Rattle.std.specs.Prelude.{◌≡◌, ◌≤◌, ◌∷◌, [], false, length, min, take, option_map, None, IfSome, IsTrue};
 ghost use Rattle.std.specs.List.{list_all, prefix_len};
 ghost use Rattle.std.specs.Str.Parse.{digits_value};
+ghost use Rattle.asp_defs.specs.declared.faults.Which.TheVariants as which;
+ghost use Rattle.asp_defs.specs.Limits.{limit};
 ghost use Rattle.asp_defs.specs.Tokens.{is_blank, is_lower, is_upper, is_digit, is_name_byte, sign_shape, word_token};
 ghost use Rattle.asp_lex.specs.Fronts.{
   IsFront,
@@ -148,7 +150,7 @@ fn number_of(value: i64) -> Shape
 /// A number without a minus.
 fn number(first: u8, rest: &[u8]) -> Piece
     requires begins { IsTrue (is_digit first) }
-    requires short { length rest.now ≤ 1048576 }
+    requires short { length rest.now ≤ limit which.Bytes }
     ensures { IsFront (first ∷ rest.now) result }
 {
     let digits = digits_len(rest);
@@ -162,7 +164,7 @@ fn number(first: u8, rest: &[u8]) -> Piece
 /// A number behind a minus, with its minus.
 fn negative_number(first: u8, rest: &[u8]) -> Piece
     requires begins { IsTrue (is_digit first) }
-    requires short { length rest.now ≤ 1048576 }
+    requires short { length rest.now ≤ limit which.Bytes }
     ensures { IsFront (45 ∷ first ∷ rest.now) result }
 {
     let digits = digits_len(rest);
@@ -186,7 +188,7 @@ fn lone_minus(rest: &[u8]) -> Piece
 
 /// A minus, or the number that it begins.
 fn minus(rest: &[u8]) -> Piece
-    requires { length rest.now ≤ 1048576 }
+    requires { length rest.now ≤ limit which.Bytes }
     ensures { IsFront (45 ∷ rest.now) result }
 {
     let Some((first, behind)) = rest.split_first() else {
@@ -213,7 +215,7 @@ fn word_kind(first: u8, behind: &[u8]) -> Tok
 /// A word that begins with a small letter.
 fn word(first: u8, rest: &[u8]) -> Piece
     requires begins { IsTrue (is_lower first) }
-    requires short { length rest.now ≤ 1048576 }
+    requires short { length rest.now ≤ limit which.Bytes }
     ensures { IsFront (first ∷ rest.now) result }
 {
     let len = name_len(rest);
@@ -226,7 +228,7 @@ fn word(first: u8, rest: &[u8]) -> Piece
 /// A variable, which begins with a capital.
 fn variable(first: u8, rest: &[u8]) -> Piece
     requires begins { IsTrue (is_upper first) }
-    requires short { length rest.now ≤ 1048576 }
+    requires short { length rest.now ≤ limit which.Bytes }
     ensures { IsFront (first ∷ rest.now) result }
 {
     Piece {
@@ -237,7 +239,7 @@ fn variable(first: u8, rest: &[u8]) -> Piece
 
 /// A block comment, by what stands behind its `%*`.
 fn block_comment(rest: &[u8]) -> Piece
-    requires { length rest.now ≤ 1048576 }
+    requires { length rest.now ≤ limit which.Bytes }
     ensures { IsFront (37 ∷ 42 ∷ rest.now) result }
 {
     match block_len(rest) {
@@ -255,7 +257,7 @@ fn block_comment(rest: &[u8]) -> Piece
 /// A line comment, by what stands behind its `%`.
 fn line_comment(rest: &[u8]) -> Piece
     requires begins { IsTrue (begins_line_comment rest.now) }
-    requires short { length rest.now ≤ 1048576 }
+    requires short { length rest.now ≤ limit which.Bytes }
     ensures { IsFront (37 ∷ rest.now) result }
 {
     Piece {
@@ -266,7 +268,7 @@ fn line_comment(rest: &[u8]) -> Piece
 
 /// A directive, by what stands behind its `%@`.
 fn directive(rest: &[u8]) -> Piece
-    requires { length rest.now ≤ 1048576 }
+    requires { length rest.now ≤ limit which.Bytes }
     ensures { IsFront (37 ∷ 64 ∷ rest.now) result }
 {
     Piece {
@@ -277,7 +279,7 @@ fn directive(rest: &[u8]) -> Piece
 
 /// A directive or a comment, by what stands behind its `%`.
 fn percent(rest: &[u8]) -> Piece
-    requires { length rest.now ≤ 1048576 }
+    requires { length rest.now ≤ limit which.Bytes }
     ensures { IsFront (37 ∷ rest.now) result }
 {
     let Some((mark, behind)) = rest.split_first() else {
@@ -368,7 +370,7 @@ fn sign(first: u8, rest: &[u8]) -> Piece
 
 /// The piece that a byte and the bytes behind it begin with.
 pub fn first_piece(first: u8, rest: &[u8]) -> Piece
-    requires { length rest.now ≤ 1048576 }
+    requires { length rest.now ≤ limit which.Bytes }
     ensures { IsFront (first ∷ rest.now) result }
 {
     if is_lower(first) {

@@ -1,6 +1,8 @@
 //! The tokens of a text.
 ghost use Rattle.std.specs.Prelude.{◌≡◌, ◌≢◌, ◌≤◌, ◌++◌, length, map, Ok, Err, IfOk, IfErr, OnOk, option_to_list};
 ghost use Rattle.asp_defs.specs.declared.faults.TextFault.TheVariants.{NoMemory};
+ghost use Rattle.asp_defs.specs.declared.faults.Which.TheVariants as which;
+ghost use Rattle.asp_defs.specs.Limits.{limit};
 ghost use Rattle.asp_defs.specs.Tokens.{tokens_of};
 ghost use Rattle.asp_lex.specs.Fronts.{found_at};
 ghost use Rattle.asp_lex.specs.Slices.{placed, StandBetween};
@@ -39,7 +41,7 @@ fn add(tokens: &mut Vec<Token>, found: Option<Token>) -> Result<(), AllocError>
 /// The lexical refusal that stands first in the text: `BadByte` at a byte that begins nothing, `BadNumber` at a number
 /// that 32 bits don't hold, `OpenComment` at a block comment without an end. `NoMemory` where memory ran out.
 pub fn lex(alloc: Global, bytes: &[u8]) -> Result<Vec<Token>, TextFault>
-    requires { length bytes.now ≤ 1048576 }
+    requires { length bytes.now ≤ limit which.Bytes }
     ensures tokens { IfOk result (λ ts. tokens_of bytes.now ≡ Ok (map (placed bytes.now) ts.items)) }
     ensures sliced { IfOk result (λ ts. StandBetween 0 (length bytes.now) ts.items) }
     ensures refused { IfErr result (λ fault. fault ≢ NoMemory → tokens_of bytes.now ≡ Err fault) }

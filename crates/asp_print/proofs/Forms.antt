@@ -32,12 +32,12 @@ behind_some sign (l ∷ body) some = refl
 pub headless : (head : Head) (body : List Literal) (b : Bool) → b ≡ is_no_head head → b ≡ true → codes ":- " ++ literals_text body ≡ statement_text head body
 headless (Disj []) body b same holds = refl
 headless (Disj (a ∷ atoms)) body b same holds = let fails : b ≡ false = same in absurd (cc)
-headless (Choice elements) body b same holds = let fails : b ≡ false = same in absurd (cc)
+headless (Choice low elements high) body b same holds = let fails : b ≡ false = same in absurd (cc)
 
 pub headed : (head : Head) (body : List Literal) → (head ≡ Disj [] → ⊥) → headed_text head body ≡ statement_text head body
 headed (Disj []) body some = absurd (some refl)
 headed (Disj (a ∷ atoms)) body some = refl
-headed (Choice elements) body some = refl
+headed (Choice low elements high) body some = refl
 
 -- what a false test for a constraint says
 pub has_head : (head : Head) (b : Bool) → b ≡ is_no_head head → b ≡ false → head ≡ Disj [] → ⊥

@@ -9,7 +9,7 @@ use Rattle.asp_defs.specs.declared.syntax.Quant.{Quant}
 use Rattle.asp_defs.specs.declared.syntax.Quant.TheVariants.{Exists, Forall}
 use Rattle.asp_defs.specs.declared.faults.TextFault.TheVariants.{BadNumber}
 use Rattle.asp_defs.specs.Tokens.{is_lower, is_name_byte}
-use Rattle.asp_defs.specs.Tokens.{Token, DirectiveToken, NotToken, NameToken, VariableToken, AnonymousToken, ArrowToken, ColonToken, DotToken, DotsToken, CommaToken, SemicolonToken, BarToken, LeftParenToken, RightParenToken, LeftBraceToken, RightBraceToken, EqToken, NeToken, LtToken, LeToken, GtToken, GeToken, BlankShape, TokenShape, is_upper, token_if, word_token, shape_of, longest_front, pieces_from, Placed, is_bad_number, after_piece, tokens_of_pieces, without_places}
+use Rattle.asp_defs.specs.Tokens.{Token, DirectiveToken, NotToken, NameToken, VariableToken, AnonymousToken, MinusToken, ArrowToken, ColonToken, DotToken, DotsToken, CommaToken, SemicolonToken, BarToken, LeftParenToken, RightParenToken, LeftBraceToken, RightBraceToken, EqToken, NeToken, LtToken, LeToken, GtToken, GeToken, BlankShape, TokenShape, is_upper, token_if, word_token, shape_of, longest_front, pieces_from, Placed, is_bad_number, after_piece, tokens_of_pieces, without_places}
 use Rattle.asp_defs.specs.Grammar.{quant_word}
 use Rattle.asp_defs.specs.Canonical.{op_text}
 use Rattle.asp_defs.specs.Lines.{line}
@@ -138,6 +138,10 @@ module _ {bytes : List ℕ} {ts : List Token} (others : Lexes bytes ts) where
 
   pub dots : Lexes (46 ∷ 46 ∷ bytes) (DotsToken ∷ ts)
   dots = lexes_token 46 (46 ∷ []) bytes DotsToken ts refl refl (always (46 ∷ 46 ∷ []) (λ c more. refl) bytes) others
+
+  -- a minus before a byte that is no digit
+  pub minus : Ends (45 ∷ []) bytes → Lexes (45 ∷ bytes) (MinusToken ∷ ts)
+  minus ends = lexes_token 45 [] bytes MinusToken ts refl refl ends others
 
   -- a full stop and its line feed
   pub dot : Lexes (46 ∷ 10 ∷ bytes) (DotToken ∷ ts)

@@ -1,6 +1,6 @@
 -- Numbers as they are printed, cut into their tokens.
-use Rattle.std.proofs.Common.{ℕ, suc, ◌≤◌, ◌≡◌, refl, ◌∙◌, ap, Bool, true, false, not, ◌||◌, List, [], ◌∷◌, ◌++◌, arith}
-use Rattle.std.specs.Prelude.{ℤ, pos, negsuc, neg_ℤ, Some, int_le, ◌==◌, decimal}
+use Rattle.std.proofs.Common.{ℕ, suc, ◌≤◌, ◌≡◌, refl, ◌∙◌, ap, Bool, true, false, not, ◌||◌, List, [], ◌∷◌, ◌++◌, arith, codes, ◌&&◌}
+use Rattle.std.specs.Prelude.{ℤ, pos, negsuc, neg_ℤ, Some, int_le, ◌==◌, decimal, None, bytes_eq}
 use Rattle.std.specs.List.{list_all}
 use Rattle.std.specs.Fmt.{signed_decimal}
 use Rattle.std.specs.Str.Parse.{digits_value, AllDigits, IsNumeral}
@@ -9,10 +9,10 @@ use Rattle.std.proofs.lemmas.Str.Parse.{digit_from_value}
 use Rattle.std.proofs.lemmas.Bool.{leb-true}
 use Rattle.std.proofs.lemmas.Bool.Decides.{nat_tests}
 use Rattle.asp_defs.specs.Tokens.{is_lower, is_name_byte}
-use Rattle.asp_defs.specs.Tokens.{Token, NumberToken, TokenShape, is_upper, is_digit, token_if, is_in_range, is_bad_number}
+use Rattle.asp_defs.specs.Tokens.{Token, NameToken, NumberToken, MinusToken, TokenShape, minus_shape, is_upper, is_digit, token_if, is_in_range, is_bad_number}
 use Rattle.asp_defs.proofs.Lists.{both, and_true, not_true}
-use Rattle.asp_print.proofs.Shapes.{digit_shape}
-use Rattle.asp_print.proofs.Lexing.{Lexes, Ends, stops, not_all, lexes_token}
+use Rattle.asp_print.proofs.Shapes.{is_name, digit_shape}
+use Rattle.asp_print.proofs.Lexing.{Lexes, Ends, stops, not_all, lexes_token, lexes_name, minus}
 
 -- a digit is no letter
 no_lower : (b : ℕ) → 48 ≤ b → b ≤ 57 → is_lower b ≡ false
@@ -29,6 +29,19 @@ digits_pass [] h = refl
 digits_pass (d ∷ ds) h =
     let range = digit_from_value d h.0 in
     and_true (is_digit d) (list_all is_digit ds) (a_digit d (omega (arith, range)) (omega (arith, range))) (digits_pass ds h.1)
+
+-- a small letter is no digit, so that a minus before it is no number
+letter_no_digit : (b : ℕ) → is_lower b ≡ true → is_digit b ≡ false
+letter_no_digit b lower = grind (arith, nat_tests)
+
+no_number : (b : ℕ) (bs : List ℕ) → is_lower b ≡ true → minus_shape (b ∷ bs) ≡ None
+no_number b bs lower =
+    ap (λ first. token_if (first && list_all is_digit bs) (NumberToken (neg_ℤ (pos (digits_value 10 (b ∷ bs)))))) (letter_no_digit b lower)
+
+pub lexes_negated : (name : List ℕ) → is_name name ≡ true → (bytes : List ℕ) (ts : List Token) → stops bytes ≡ true → Lexes bytes ts → Lexes (45 ∷ (name ++ bytes)) (MinusToken ∷ NameToken name ∷ ts)
+lexes_negated [] h bytes ts end others = absurd (cc)
+lexes_negated (b ∷ bs) h bytes ts end others =
+    minus (lexes_name (b ∷ bs) h bytes ts end others) (λ more. no_number b more (both (is_lower b) (list_all is_name_byte bs && not (bytes_eq (b ∷ bs) (codes "not"))) h).0)
 
 -- a byte that ends a name ends a number
 or_right_false : (a b : Bool) → a || b ≡ false → b ≡ false

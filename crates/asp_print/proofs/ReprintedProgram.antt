@@ -7,27 +7,30 @@ use Rattle.asp_defs.specs.declared.syntax.Rule.{Rule}
 use Rattle.asp_defs.specs.Tokens.{Token, DirectiveToken, ArrowToken, DotToken, BarToken, SemicolonToken, LeftBraceToken, RightBraceToken, without_places}
 use Rattle.asp_defs.specs.Grammar.{Production, AllAt, AtomAt, ElementAt, is_or, is_semicolon, HeadAt, StatementAt, quant_word, LevelAt, ConstraintPartAt, IsProgram}
 use Rattle.asp_defs.specs.Lines.{line}
-use Rattle.asp_defs.specs.Canonical.{atom_text, literals_text, behind_sign, element_text, head_text, headed_text, statement_text, rule_line, level_text, constraint_part_text, program_text}
+use Rattle.asp_defs.specs.Canonical.{atom_text, literals_text, behind_sign, element_text, low_text, high_text, head_text, headed_text, statement_text, rule_line, level_text, constraint_part_text, program_text}
 use Rattle.asp_print.specs.Laws.{CanonicalTextIsAText}
 use Rattle.asp_print.proofs.Forms.{headed}
 use Rattle.asp_print.proofs.Shapes.{tokens_formed}
 use Rattle.asp_print.proofs.Lexing.{Lexes, nothing_lexes, blank, semicolon, bar, left_brace, right_brace, dot, arrow, level_directive, constraint_directive}
-use Rattle.asp_print.proofs.Reprints.{Formed, formed_rest, Reprints, moved, three, joined_reprints, any_reprints, atom_reprints, wide_atom_reprints, body_reprints, stops_behind, signed_reprints, element_reprints}
+use Rattle.asp_print.proofs.Reprints.{Formed, formed_rest, Reprints, moved, three, five, joined_reprints, any_reprints, atom_reprints, wide_atom_reprints, body_reprints, stops_behind, signed_reprints, element_reprints, low_reprints, high_reprints}
 
 head_reprints : Reprints head_text HeadAt
 head_reprints (Disj atoms) ts rest h formed =
     let joined = joined_reprints atom_text AtomAt atom_reprints is_or BarToken (codes " | ") refl (λ bytes. refl) (λ bytes us lex. blank (bar (blank lex))) atoms ts rest h formed in
     (joined.0, record { spell = joined.1.spell })
-head_reprints (Choice elements) ts rest (mid, e, h) formed =
-    let inside = any_reprints element_text ElementAt element_reprints is_semicolon SemicolonToken (codes "; ") refl (λ bytes. refl) (λ bytes us lex. semicolon (blank lex)) elements mid (RightBraceToken ∷ rest) h (formed_rest LeftBraceToken mid ts e formed).1 in (
-      (formed_rest RightBraceToken rest (RightBraceToken ∷ rest) refl inside.0).1,
+head_reprints (Choice low elements high) ts rest (mid, closed, l, h, u) formed =
+    let first = low_reprints low ts (LeftBraceToken ∷ mid) l formed in
+    let inside = any_reprints element_text ElementAt element_reprints is_semicolon SemicolonToken (codes "; ") refl (λ bytes. refl) (λ bytes us lex. semicolon (blank lex)) elements mid (RightBraceToken ∷ closed) h (formed_rest LeftBraceToken mid (LeftBraceToken ∷ mid) refl first.0).1 in
+    let last = high_reprints high closed rest u (formed_rest RightBraceToken closed (RightBraceToken ∷ closed) refl inside.0).1 in (
+      last.0,
       record {
         spell = λ bytes others end lex.
-            let (us, cut, at) = inside.1.spell (125 ∷ bytes) (RightBraceToken ∷ others) refl (right_brace lex) in (
-              LeftBraceToken ∷ us,
-              moved (ap (λ l. 123 ∷ l) (sym (append_assoc (join_by element_text (codes "; ") elements) (codes "}") bytes))) (left_brace cut),
-              (us, refl, at),
-            );
+            let inner : List ℕ = join_by element_text (codes "; ") elements in
+            let tail : List ℕ = high_text high ++ bytes in
+            let (us, cut, at) = last.1.spell bytes others end lex in
+            let (vs, cut', at') = inside.1.spell (125 ∷ tail) (RightBraceToken ∷ us) refl (right_brace cut) in
+            let (ws, cut'', at'') = first.1.spell (123 ∷ (inner ++ 125 ∷ tail)) (LeftBraceToken ∷ vs) refl (left_brace cut') in
+            (ws, moved (five (low_text low) (codes "{") inner (codes "}") (high_text high) bytes) cut'', (vs, us, at'', at', at));
       },
     )
 

@@ -1,6 +1,7 @@
 -- Parts of a program: the text of a part that was read is read as the same part.
 use Rattle.std.proofs.Common.{ℕ, ◌≡◌, refl, sym, ◌∙◌, ap, subst, inl, inr, Bool, true, false, not, List, [], ◌∷◌, ◌++◌, codes, append_assoc, append-nil}
 use Rattle.std.specs.List.{list_all, flat_map, join_by}
+use Rattle.std.specs.Prelude.{None, Some}
 use Rattle.std.specs.Fmt.{signed_decimal}
 use Rattle.asp_defs.specs.declared.syntax.Op.{Op}
 use Rattle.asp_defs.specs.declared.syntax.Op.TheVariants.{Eq, Ne, Lt, Le, Gt, Ge}
@@ -8,13 +9,13 @@ use Rattle.asp_defs.specs.declared.syntax.Term.{Term}
 use Rattle.asp_defs.specs.declared.syntax.Term.TheVariants.{Int, Sym, Var, Anon, Range}
 use Rattle.asp_defs.specs.declared.syntax.Literal.{Literal}
 use Rattle.asp_defs.specs.declared.syntax.Literal.TheVariants.{Pos, Neg, Cmp}
-use Rattle.asp_defs.specs.Tokens.{Token, NotToken, NameToken, VariableToken, AnonymousToken, NumberToken, DotsToken, CommaToken, ColonToken, LeftParenToken, RightParenToken, is_bad_number}
-use Rattle.asp_defs.specs.Grammar.{Production, JoinedAt, AnyJoinedAt, is_comma, TermAt, WideTermAt, AtomWithAt, AtomAt, WideAtomAt, is_operator, LiteralAt, BodyAt, SignedBodyAt, ElementAt}
-use Rattle.asp_defs.specs.Canonical.{term_text, atom_text, op_text, literal_text, literals_text, behind_sign, element_text}
+use Rattle.asp_defs.specs.Tokens.{Token, NotToken, NameToken, VariableToken, AnonymousToken, NumberToken, MinusToken, DotsToken, CommaToken, ColonToken, LeftParenToken, RightParenToken, is_bad_number}
+use Rattle.asp_defs.specs.Grammar.{Production, JoinedAt, AnyJoinedAt, is_comma, TermAt, WideTermAt, PredicateAt, AtomWithAt, AtomAt, WideAtomAt, is_operator, LiteralAt, BodyAt, SignedBodyAt, ElementAt, BoundAt}
+use Rattle.asp_defs.specs.Canonical.{term_text, atom_text, op_text, literal_text, literals_text, behind_sign, element_text, low_text, high_text}
 use Rattle.asp_defs.proofs.Lists.{both, not_true}
 use Rattle.asp_print.proofs.Shapes.{is_spelled, is_formed}
 use Rattle.asp_print.proofs.Lexing.{Lexes, stops, blank, comma, colon, left_paren, right_paren, anonymous, dots, negation, op_token, operator, lexes_name, lexes_variable}
-use Rattle.asp_print.proofs.Numerals.{lexes_number}
+use Rattle.asp_print.proofs.Numerals.{lexes_number, lexes_negated}
 
 -- each token is formed
 abbrev pub Formed : List Token → Type 0
@@ -47,7 +48,7 @@ three a b c d = sym (append_assoc a b (c ++ d)) ∙ sym (append_assoc (a ++ b) c
 four : (a b c d e : List ℕ) → a ++ (b ++ (c ++ (d ++ e))) ≡ a ++ b ++ c ++ d ++ e
 four a b c d e = three a b c (d ++ e) ∙ sym (append_assoc (a ++ b ++ c) d e)
 
-five : (a b c d e f : List ℕ) → a ++ (b ++ (c ++ (d ++ (e ++ f)))) ≡ a ++ b ++ c ++ d ++ e ++ f
+pub five : (a b c d e f : List ℕ) → a ++ (b ++ (c ++ (d ++ (e ++ f)))) ≡ a ++ b ++ c ++ d ++ e ++ f
 five a b c d e f = four a b c d (e ++ f) ∙ sym (append_assoc (a ++ b ++ c ++ d) e f)
 
 -- ---- terms
@@ -134,36 +135,55 @@ module _ {A : Type 0} (text : A → List ℕ) (At : Production A) (one : Reprint
 
 -- ---- atoms
 
+abbrev name_text : List ℕ → List ℕ
+name_text name = name
+
+predicate_reprints : Reprints name_text PredicateAt
+predicate_reprints name ts rest (inl e) formed =
+    let parts = formed_rest (NameToken name) rest ts e formed in (
+      parts.1,
+      record { spell = λ bytes others end lex. (NameToken name ∷ others, lexes_name name (spelled (NameToken name) parts.0) bytes others end lex, inl refl) },
+    )
+predicate_reprints name ts rest (inr (plain, n, e)) formed =
+    let first = formed_rest MinusToken (NameToken plain ∷ rest) ts e formed in
+    let parts = formed_rest (NameToken plain) rest (NameToken plain ∷ rest) refl first.1 in (
+      parts.1,
+      record {
+        spell = λ bytes others end lex. (
+          MinusToken ∷ NameToken plain ∷ others,
+          moved (ap (λ l. l ++ bytes) (sym n)) (lexes_negated plain (spelled (NameToken plain) parts.0) bytes others end lex),
+          inr (plain, n, refl),
+        );
+      },
+    )
+
 module _ (At : Production Term) (one : Reprints term_text At) where
-  bare : (name : List ℕ) → is_formed (NameToken name) ≡ true → Respells atom_text (AtomWithAt At) (record { name = name; args = [] })
+  bare : (name : List ℕ) → Respells name_text PredicateAt name → Respells atom_text (AtomWithAt At) (record { name = name; args = [] })
   bare name h = record {
-    spell = λ bytes others end lex. (NameToken name ∷ others, lexes_name name (spelled (NameToken name) h) bytes others end lex, (others, refl, inl (refl, refl)));
+    spell = λ bytes others end lex. let (us, cut, at) = h.spell bytes others end lex in (us, cut, (others, at, inl (refl, refl)));
   }
 
   atom_parts : (name : List ℕ) (args : List Term) (ts rest : List Token) → AtomWithAt At (record { name = name; args = args }) ts rest → Formed ts
       → Formed rest × Respells atom_text (AtomWithAt At) (record { name = name; args = args })
-  atom_parts name [] ts rest (mid, e, inl (none, f)) formed =
-      let parts = formed_rest (NameToken name) mid ts e formed in
-      (subst Formed f parts.1, bare name parts.0)
-  atom_parts name [] ts rest (mid, e, inr (inside, f, h)) formed =
-      let parts = formed_rest (NameToken name) mid ts e formed in
-      let open_ = formed_rest LeftParenToken inside mid f parts.1 in
-      ((formed_rest RightParenToken rest inside h open_.1).1, bare name parts.0)
-  atom_parts name (x ∷ xs) ts rest (mid, e, inl (none, f)) formed = absurd (cc)
-  atom_parts name (x ∷ xs) ts rest (mid, e, inr (inside, f, h)) formed =
-      let parts = formed_rest (NameToken name) mid ts e formed in
-      let open_ = formed_rest LeftParenToken inside mid f parts.1 in
+  atom_parts name [] ts rest (mid, n, inl (none, f)) formed =
+      let parts = predicate_reprints name ts mid n formed in
+      (subst Formed f parts.0, bare name parts.1)
+  atom_parts name [] ts rest (mid, n, inr (inside, f, h)) formed =
+      let parts = predicate_reprints name ts mid n formed in
+      let open_ = formed_rest LeftParenToken inside mid f parts.0 in
+      ((formed_rest RightParenToken rest inside h open_.1).1, bare name parts.1)
+  atom_parts name (x ∷ xs) ts rest (mid, n, inl (none, f)) formed = absurd (cc)
+  atom_parts name (x ∷ xs) ts rest (mid, n, inr (inside, f, h)) formed =
+      let parts = predicate_reprints name ts mid n formed in
+      let open_ = formed_rest LeftParenToken inside mid f parts.0 in
       let terms = joined_reprints term_text At one is_comma CommaToken (codes ",") refl (λ bytes. refl) (λ bytes us lex. comma lex) (x ∷ xs) inside (RightParenToken ∷ rest) h open_.1 in (
         (formed_rest RightParenToken rest (RightParenToken ∷ rest) refl terms.0).1,
         record {
           spell = λ bytes others end lex.
               let (us, cut, at) = terms.1.spell (41 ∷ bytes) (RightParenToken ∷ others) refl (right_paren lex) in
-              let inner : List ℕ = join_by term_text (codes ",") (x ∷ xs) in (
-                NameToken name ∷ LeftParenToken ∷ us,
-                moved (four name (codes "(") inner (codes ")") bytes)
-                    (lexes_name name (spelled (NameToken name) parts.0) (40 ∷ (inner ++ 41 ∷ bytes)) (LeftParenToken ∷ us) refl (left_paren cut)),
-                (LeftParenToken ∷ us, refl, inr (us, refl, at)),
-              );
+              let inner : List ℕ = join_by term_text (codes ",") (x ∷ xs) in
+              let (vs, cut', at') = parts.1.spell (40 ∷ (inner ++ 41 ∷ bytes)) (LeftParenToken ∷ us) refl (left_paren cut) in
+              (vs, moved (four name (codes "(") inner (codes ")") bytes) cut', (LeftParenToken ∷ us, at', inr (us, refl, at)));
         },
       )
 
@@ -248,5 +268,35 @@ element_reprints e ts rest (mid, atom, cond) formed =
             let (us, cut, at) = second.1.spell bytes others end lex in
             let (vs, cut', at') = first.1.spell (behind_sign (codes " : ") e.cond ++ bytes) us (stops_behind (codes ": ") e.cond bytes end) cut in
             (vs, moved (sym (append_assoc (atom_text e.atom) (behind_sign (codes " : ") e.cond) bytes)) cut', (us, at', at));
+      },
+    )
+
+-- ---- bounds of choices
+
+pub low_reprints : Reprints low_text BoundAt
+low_reprints None ts rest e formed = (subst Formed e formed, record { spell = λ bytes others end lex. (others, lex, refl) })
+low_reprints (Some x) ts rest e formed =
+    let parts = formed_rest (NumberToken x) rest ts e formed in (
+      parts.1,
+      record {
+        spell = λ bytes others end lex. (
+          NumberToken x ∷ others,
+          moved (sym (append_assoc (signed_decimal x) (codes " ") bytes)) (lexes_number x (in_range (NumberToken x) parts.0) (32 ∷ bytes) others refl (blank lex)),
+          refl,
+        );
+      },
+    )
+
+pub high_reprints : Reprints high_text BoundAt
+high_reprints None ts rest e formed = (subst Formed e formed, record { spell = λ bytes others end lex. (others, lex, refl) })
+high_reprints (Some x) ts rest e formed =
+    let parts = formed_rest (NumberToken x) rest ts e formed in (
+      parts.1,
+      record {
+        spell = λ bytes others end lex. (
+          NumberToken x ∷ others,
+          blank (lexes_number x (in_range (NumberToken x) parts.0) bytes others end lex),
+          refl,
+        );
       },
     )

@@ -16,7 +16,6 @@ line_text line.Unfinished = text_fault_line text.Unfinished
 line_text (line.UnknownDirective place) = text_fault_line (text.UnknownDirective place)
 line_text (line.BeforeLevel place) = text_fault_line (text.BeforeLevel place)
 line_text (line.AfterConstraint place) = text_fault_line (text.AfterConstraint place)
-line_text (line.NotYet place form) = text_fault_line (text.NotYet place form)
 line_text (line.Unexpected place) = text_fault_line (text.Unexpected place)
 line_text (line.Unsafe rule v) = unsafe_line rule v
 line_text (line.NotConstraint rule) = headed_line rule

@@ -3,13 +3,13 @@ ghost use Rattle.std.specs.Prelude.{◌≡◌, ◌++◌, codes, decimal, OnOk, O
 ghost use Rattle.std.specs.Io.KnownBytes.{Appends};
 ghost use Rattle.asp_io.specs.Causes.{HasCause};
 ghost use Rattle.asp_io.specs.Moved.{AppendsPrefix};
-ghost use Rattle.asp_defs.specs.Lines.{at_place, form_text, which_text, kind_text, variable_text, unsafe_line, too_large_line, unknown_line};
+ghost use Rattle.asp_defs.specs.Lines.{which_text, kind_text, variable_text, unsafe_line, too_large_line, unknown_line};
 ghost use Rattle.asp_print.specs.LineTexts.{line_text};
 ghost use Rattle.asp_print.specs.Written.{Writes};
 
 use crate::buffer::{Buffer, flush, print_bytes};
 use crate::pieces::{print_count, print_name, print_number};
-use asp_defs::{Form, Kind, Unknown, Var, Which};
+use asp_defs::{Kind, Unknown, Var, Which};
 use asp_io::{Failed, Sink};
 
 /// A line of the output. Places are byte offsets from 0; words, rules and levels are numbered from 1.
@@ -33,8 +33,6 @@ pub enum Line {
     BeforeLevel(u32),
     /// A directive stands there behind the constraint part.
     AfterConstraint(u32),
-    /// A form stands there that is not read yet.
-    NotYet(u32, Form),
     /// The token there continues no program.
     Unexpected(u32),
     /// The rule has a variable that isn't safe.
@@ -121,7 +119,6 @@ fn print_any<K: Sink>(sink: &mut K, buffer: &mut Buffer, line: &Line) -> Result<
                 b"\n",
             )
         }
-        Line::NotYet(place, form) => print_not_yet(sink, buffer, *form, *place),
         Line::Unexpected(place) => print_around(
             sink,
             buffer,
@@ -176,34 +173,6 @@ fn print_around_count<K: Sink>(
     print_bytes(sink, buffer, before)?;
     print_count(sink, buffer, count)?;
     print_bytes(sink, buffer, after)
-}
-
-/// Writes the line of a form that is not read yet.
-fn print_not_yet<K: Sink>(
-    sink: &mut K,
-    buffer: &mut Buffer,
-    form: Form,
-    place: u32,
-) -> Result<(), Failed>
-    ensures { Writes (K.taken sink.old) (K.taken sink.new) buffer.old.items buffer.new.items (K.faults sink.old) (K.faults sink.new)
-        result (at_place (codes "not yet: " ++ form_text form) place) }
-{
-    match form {
-        Form::Strong => print_around(
-            sink,
-            buffer,
-            b"aspq: not yet: strong negation at ",
-            place,
-            b"\n",
-        ),
-        Form::Bounds => print_around(
-            sink,
-            buffer,
-            b"aspq: not yet: choice bounds at ",
-            place,
-            b"\n",
-        ),
-    }
 }
 
 /// Writes the line of a rule with an unsafe variable.

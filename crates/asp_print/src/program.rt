@@ -5,7 +5,7 @@ ghost use Rattle.asp_io.specs.Causes.{HasCause};
 ghost use Rattle.asp_io.specs.Moved.{AppendsPrefix};
 ghost use Rattle.asp_defs.specs.Grammar.{quant_word};
 ghost use Rattle.asp_defs.specs.Lines.{line};
-ghost use Rattle.asp_defs.specs.Canonical.{program_text, constraint_part_text, headed_text, literals_text, head_text, level_text, rule_line, statement_text, element_text, literal_text, op_text, atom_text, term_text, behind_sign};
+ghost use Rattle.asp_defs.specs.Canonical.{program_text, constraint_part_text, headed_text, literals_text, head_text, low_text, high_text, level_text, rule_line, statement_text, element_text, literal_text, op_text, atom_text, term_text, behind_sign};
 ghost use Rattle.asp_print.specs.Written.{Writes};
 
 use crate::buffer::{Buffer, flush, print_bytes};
@@ -130,23 +130,55 @@ impl Printed for Head {
     fn print<K: Sink>(&self, sink: &mut K, buffer: &mut Buffer) -> Result<(), Failed> {
         match self {
             Head::Disj(atoms) => print_joined(sink, buffer, b" | ", atoms),
-            Head::Choice(elements) => print_choice(sink, buffer, elements),
+            Head::Choice(low, elements, high) => print_choice(sink, buffer, *low, elements, *high),
         }
     }
 }
 
-/// Writes a choice.
+/// Writes a choice between its bounds.
 fn print_choice<K: Sink>(
     sink: &mut K,
     buffer: &mut Buffer,
+    low: Option<i32>,
     elements: &List<Element>,
+    high: Option<i32>,
 ) -> Result<(), Failed>
     ensures { Writes (K.taken sink.old) (K.taken sink.new) buffer.old.items buffer.new.items (K.faults sink.old) (K.faults sink.new)
-        result (head_text (Head.Choice elements.now)) }
+        result (head_text (Head.Choice low elements.now high)) }
 {
+    print_lower(sink, buffer, low)?;
     print_bytes(sink, buffer, b"{")?;
     print_joined(sink, buffer, b"; ", elements)?;
-    print_bytes(sink, buffer, b"}")
+    print_bytes(sink, buffer, b"}")?;
+    print_upper(sink, buffer, high)
+}
+
+/// Writes a lower bound and a blank behind it, and nothing where there is none.
+fn print_lower<K: Sink>(sink: &mut K, buffer: &mut Buffer, bound: Option<i32>) -> Result<(), Failed>
+    ensures { Writes (K.taken sink.old) (K.taken sink.new) buffer.old.items buffer.new.items (K.faults sink.old) (K.faults sink.new)
+        result (low_text bound) }
+{
+    match bound {
+        None => Ok(()),
+        Some(bound) => {
+            print_integer(sink, buffer, bound)?;
+            print_bytes(sink, buffer, b" ")
+        }
+    }
+}
+
+/// Writes an upper bound and a blank before it, and nothing where there is none.
+fn print_upper<K: Sink>(sink: &mut K, buffer: &mut Buffer, bound: Option<i32>) -> Result<(), Failed>
+    ensures { Writes (K.taken sink.old) (K.taken sink.new) buffer.old.items buffer.new.items (K.faults sink.old) (K.faults sink.new)
+        result (high_text bound) }
+{
+    match bound {
+        None => Ok(()),
+        Some(bound) => {
+            print_bytes(sink, buffer, b" ")?;
+            print_integer(sink, buffer, bound)
+        }
+    }
 }
 
 /// Writes a body behind a sign, and nothing where it is empty.

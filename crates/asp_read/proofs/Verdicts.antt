@@ -1,4 +1,4 @@
--- What a result says of the bytes, if it is the machine's answer or want of memory.
+-- What a result says of the bytes, if it is the machine's answer or out of memory.
 use Rattle.std.proofs.Common.{ℕ, ◌≡◌, ◌≢◌, ◌⊎◌, ◌∙◌, refl, sym, ap, inl, inr, List, [], ◌∷◌, length, map, Bool, true, false}
 use Rattle.std.specs.Prelude.{Result, Ok, Err, IfOk, IfErr, ◌==◌}
 use Rattle.asp_defs.specs.declared.syntax.Program.{Program}

@@ -1,29 +1,22 @@
-//! What a token adds to a program that is read: a function for each group of places.
-ghost use Rattle.std.specs.Prelude.{◌≡◌, ◌<◌, List, ℕ, [], drop, IfOk, OnOk};
+//! What a token adds to a program that is read: a function for each group of states.
+ghost use Rattle.std.specs.Prelude.{◌≡◌, ◌<◌, List, ℕ, [], ◌++◌, codes, drop, IfOk, OnOk};
 ghost use Rattle.asp_defs.specs.Tokens as defs;
 ghost use Rattle.asp_lex.specs.Slices.{token_of};
 ghost use Rattle.asp_grammar.specs.Machine as machine;
 
-use crate::places::{directive_of, is_operator};
+use crate::states::{directive_of, is_operator};
 use asp_defs::{Atom, Element, Head, List, Literal, Name, NoMemory, Op, Part, Rule, Term};
-use asp_grammar::{Directive, Place, Role, Tree};
+use asp_grammar::{Directive, Role, State, Tree};
 use asp_lex::Tok;
 use std::alloc::Global;
 use std::mem;
-
-/// The name of no bytes, which stays where a name was taken away.
-pub fn no_name(alloc: Global) -> Name
-    ensures { result ≡ [] }
-{
-    Name::from_vec(Vec::new(alloc))
-}
 
 /// The atom of no bytes, which stays where an atom was taken away.
 pub fn no_atom(alloc: Global) -> Atom
     ensures { result ≡ machine.no_atom }
 {
     Atom {
-        name: no_name(alloc),
+        name: Name::empty(),
         args: List::new(alloc),
     }
 }
@@ -104,7 +97,7 @@ fn add_atom(tree: &mut Tree, role: Role, atom: Atom) -> Result<(), NoMemory>
 fn add_bare(tree: &mut Tree, alloc: Global, role: Role) -> Result<(), NoMemory>
     ensures { OnOk result (tree.new ≡ machine.add_bare role tree.old) }
 {
-    let name = mem::replace(&mut tree.name, no_name(alloc));
+    let name = mem::replace(&mut tree.name, Name::empty());
     let args = List::new(alloc);
     add_atom(tree, role, Atom { name, args })
 }
@@ -113,7 +106,7 @@ fn add_bare(tree: &mut Tree, alloc: Global, role: Role) -> Result<(), NoMemory>
 fn add_whole(tree: &mut Tree, alloc: Global, role: Role) -> Result<(), NoMemory>
     ensures { OnOk result (tree.new ≡ machine.add_whole role tree.old) }
 {
-    let name = mem::replace(&mut tree.name, no_name(alloc));
+    let name = mem::replace(&mut tree.name, Name::empty());
     let args = mem::replace(&mut tree.args, List::new(alloc));
     add_atom(tree, role, Atom { name, args })
 }
@@ -126,12 +119,12 @@ fn close_disjunction(tree: &mut Tree, alloc: Global)
     tree.head = Head::Disj(atoms);
 }
 
-/// The elements of the open choice are the head.
-fn close_choice(tree: &mut Tree, alloc: Global)
-    ensures { tree.new ≡ machine.close_choice tree.old }
+/// The elements of the open choice, between its bounds, are the head.
+fn close_choice(tree: &mut Tree, alloc: Global, upper: Option<i32>)
+    ensures { tree.new ≡ machine.close_choice upper tree.old }
 {
     let elements = mem::replace(&mut tree.elements, List::new(alloc));
-    tree.head = Head::Choice(elements);
+    tree.head = Head::Choice(tree.lower, elements, upper);
 }
 
 /// The open element, with its condition, is whole.
@@ -188,20 +181,29 @@ fn add_directive(tree: &mut Tree, alloc: Global, text: &[u8]) -> Result<(), NoMe
     Ok(())
 }
 
-/// A disjunction begins with an atom.
-fn open_head(tree: &mut Tree, alloc: Global, text: &[u8]) -> Result<(), NoMemory>
-    ensures { OnOk result (tree.new ≡ machine.open_head text.now tree.old) }
+/// A disjunction begins.
+fn open_atoms(tree: &mut Tree, alloc: Global) -> Result<(), NoMemory>
+    ensures { OnOk result (tree.new ≡ machine.open_atoms tree.old) }
 {
     tree.atoms = one_place(alloc)?;
-    tree.name = Name::from_slice(alloc, text)?;
     tree.anonymous = 0;
     Ok(())
 }
 
-/// A choice begins.
-fn open_choice(tree: &mut Tree, alloc: Global) -> Result<(), NoMemory>
-    ensures { OnOk result (tree.new ≡ machine.open_choice tree.old) }
+/// A disjunction begins with an atom.
+fn open_head(tree: &mut Tree, alloc: Global, text: &[u8]) -> Result<(), NoMemory>
+    ensures { OnOk result (tree.new ≡ machine.open_head text.now tree.old) }
 {
+    open_atoms(tree, alloc)?;
+    tree.name = Name::from_slice(alloc, text)?;
+    Ok(())
+}
+
+/// A choice begins, with a lower bound or without one.
+fn open_choice(tree: &mut Tree, alloc: Global, lower: Option<i32>) -> Result<(), NoMemory>
+    ensures { OnOk result (tree.new ≡ machine.open_choice lower tree.old) }
+{
+    tree.lower = lower;
     tree.elements = one_place(alloc)?;
     tree.anonymous = 0;
     Ok(())
@@ -223,14 +225,16 @@ fn add_statement(tree: &mut Tree, alloc: Global, kind: Tok, text: &[u8]) -> Resu
     match kind {
         Tok::Directive => add_directive(tree, alloc, text)?,
         Tok::Name => open_head(tree, alloc, text)?,
-        Tok::LeftBrace => open_choice(tree, alloc)?,
+        Tok::Minus => open_atoms(tree, alloc)?,
+        Tok::Number(lower) => open_choice(tree, alloc, Some(lower))?,
+        Tok::LeftBrace => open_choice(tree, alloc, None)?,
         Tok::Arrow => open_constraint(tree, alloc),
         _ => {}
     }
     Ok(())
 }
 
-/// Where only an atom may begin.
+/// Where an atom may begin.
 fn add_name(tree: &mut Tree, alloc: Global, kind: Tok, text: &[u8]) -> Result<(), NoMemory>
     ensures { OnOk result (tree.new ≡ machine.add_name (token_of kind text.now) tree.old) }
 {
@@ -260,37 +264,21 @@ fn add_head(tree: &mut Tree, alloc: Global, kind: Tok) -> Result<(), NoMemory>
     }
 }
 
-/// Behind an opening brace.
-fn add_first_element(tree: &mut Tree, alloc: Global, kind: Tok, text: &[u8]) -> Result<(), NoMemory>
-    ensures { OnOk result (tree.new ≡ machine.add_first_element (token_of kind text.now) tree.old) }
-{
-    match kind {
-        Tok::Name => tree.name = Name::from_slice(alloc, text)?,
-        Tok::RightBrace => close_choice(tree, alloc),
-        _ => {}
-    }
-    Ok(())
-}
-
 /// Behind the atom of an element.
 fn add_chosen(tree: &mut Tree, alloc: Global, kind: Tok) -> Result<(), NoMemory>
     ensures { OnOk result ((bytes : List ℕ) → tree.new ≡ machine.add_chosen (token_of kind bytes) tree.old) }
 {
     match kind {
         Tok::Colon => tree.literals = List::new(alloc),
-        Tok::Semicolon => close_element(tree, alloc, List::new(alloc))?,
-        Tok::RightBrace => {
-            close_element(tree, alloc, List::new(alloc))?;
-            close_choice(tree, alloc);
-        }
+        Tok::Semicolon | Tok::RightBrace => close_element(tree, alloc, List::new(alloc))?,
         _ => {}
     }
     Ok(())
 }
 
-/// Behind a choice.
-fn add_choice(tree: &mut Tree, alloc: Global, kind: Tok) -> Result<(), NoMemory>
-    ensures { OnOk result ((bytes : List ℕ) → tree.new ≡ machine.add_choice (token_of kind bytes) tree.old) }
+/// Behind an upper bound.
+fn add_upper(tree: &mut Tree, alloc: Global, kind: Tok) -> Result<(), NoMemory>
+    ensures { OnOk result ((bytes : List ℕ) → tree.new ≡ machine.add_upper (token_of kind bytes) tree.old) }
 {
     match kind {
         Tok::Arrow => tree.literals = List::new(alloc),
@@ -298,6 +286,22 @@ fn add_choice(tree: &mut Tree, alloc: Global, kind: Tok) -> Result<(), NoMemory>
         _ => {}
     }
     Ok(())
+}
+
+/// Behind a choice, where an upper bound may come.
+fn add_choice(tree: &mut Tree, alloc: Global, kind: Tok) -> Result<(), NoMemory>
+    ensures { OnOk result ((bytes : List ℕ) → tree.new ≡ machine.add_choice (token_of kind bytes) tree.old) }
+{
+    match kind {
+        Tok::Number(upper) => {
+            close_choice(tree, alloc, Some(upper));
+            Ok(())
+        }
+        _ => {
+            close_choice(tree, alloc, None);
+            add_upper(tree, alloc, kind)
+        }
+    }
 }
 
 /// Where a literal has to begin.
@@ -321,11 +325,7 @@ fn add_close(tree: &mut Tree, alloc: Global, kind: Tok) -> Result<(), NoMemory>
 {
     match kind {
         Tok::Dot => close_body(tree, alloc)?,
-        Tok::Semicolon => close_condition(tree, alloc)?,
-        Tok::RightBrace => {
-            close_condition(tree, alloc)?;
-            close_choice(tree, alloc);
-        }
+        Tok::Semicolon | Tok::RightBrace => close_condition(tree, alloc)?,
         _ => {}
     }
     Ok(())
@@ -365,10 +365,10 @@ fn add_behind(tree: &mut Tree, alloc: Global, role: Role, kind: Tok) -> Result<(
 }
 
 /// The open name is the left side of a comparison.
-fn add_left(tree: &mut Tree, alloc: Global, kind: Tok)
+fn add_left(tree: &mut Tree, kind: Tok)
     ensures { (bytes : List ℕ) → tree.new ≡ (record tree.old { left = Term.Sym tree.old.name; name = []; op = machine.op_of (token_of kind bytes) }) }
 {
-    let name = mem::replace(&mut tree.name, no_name(alloc));
+    let name = mem::replace(&mut tree.name, Name::empty());
     tree.left = Term::Sym(name);
     tree.op = op_of(kind);
 }
@@ -378,7 +378,7 @@ fn add_bare_name(tree: &mut Tree, alloc: Global, role: Role, kind: Tok) -> Resul
     ensures { OnOk result ((bytes : List ℕ) → tree.new ≡ machine.add_bare_name role (token_of kind bytes) tree.old) }
 {
     if matches!(role, Role::Positive(_)) && is_operator(kind) {
-        add_left(tree, alloc, kind);
+        add_left(tree, kind);
         Ok(())
     } else {
         add_bare(tree, alloc, role)?;
@@ -396,6 +396,42 @@ fn add_after_name(tree: &mut Tree, alloc: Global, role: Role, kind: Tok) -> Resu
             Ok(())
         }
         _ => add_bare_name(tree, alloc, role, kind),
+    }
+}
+
+/// The name of an atom behind a minus, which belongs to it.
+fn negated(alloc: Global, text: &[u8]) -> Result<Name, NoMemory>
+    ensures { IfOk result (λ name. name ≡ codes "-" ++ text.now) }
+{
+    let mut bytes = Vec::with_capacity(alloc, text.len() + 1)?;
+    bytes.push(b'-')?;
+    bytes.extend_from_slice(text)?;
+    Name::from_slice(alloc, bytes.as_slice())
+}
+
+/// Behind a minus.
+fn add_negated(tree: &mut Tree, alloc: Global, kind: Tok, text: &[u8]) -> Result<(), NoMemory>
+    ensures { OnOk result (tree.new ≡ machine.add_negated (token_of kind text.now) tree.old) }
+{
+    if kind == Tok::Name {
+        tree.name = negated(alloc, text)?;
+    }
+    Ok(())
+}
+
+/// Behind a minus and a name.
+fn add_after_negated(tree: &mut Tree, alloc: Global, role: Role, kind: Tok) -> Result<(), NoMemory>
+    ensures { OnOk result ((bytes : List ℕ) → tree.new ≡ machine.add_after_negated role (token_of kind bytes) tree.old) }
+{
+    match kind {
+        Tok::LeftParen => {
+            tree.args = List::new(alloc);
+            Ok(())
+        }
+        _ => {
+            add_bare(tree, alloc, role)?;
+            add_behind(tree, alloc, role, kind)
+        }
     }
 }
 
@@ -476,7 +512,7 @@ fn add_high(tree: &mut Tree, kind: Tok) -> Result<(), NoMemory>
     }
 }
 
-/// Adds a token that may come at a place.
+/// Adds a token that may come in a state.
 ///
 /// # Errors
 ///
@@ -484,39 +520,42 @@ fn add_high(tree: &mut Tree, kind: Tok) -> Result<(), NoMemory>
 pub fn add(
     tree: &mut Tree,
     alloc: Global,
-    place: Place,
+    state: State,
     kind: Tok,
     text: &[u8],
 ) -> Result<(), NoMemory>
     requires { tree.old.anonymous < u32.MAX }
-    ensures { OnOk result (tree.new ≡ machine.add place (token_of kind text.now) tree.old) }
+    ensures { OnOk result (tree.new ≡ machine.add state (token_of kind text.now) tree.old) }
 {
-    match place {
-        Place::Start => {
+    match state {
+        State::Start => {
             add_start(tree, kind, text);
             Ok(())
         }
-        Place::Statement => add_statement(tree, alloc, kind, text),
-        Place::NextHead | Place::NextElement | Place::AfterNot(_) => add_name(
-            tree, alloc, kind, text,
-        ),
-        Place::AfterHead | Place::AfterFact => add_head(tree, alloc, kind),
-        Place::FirstElement => add_first_element(tree, alloc, kind, text),
-        Place::AfterChosen => add_chosen(tree, alloc, kind),
-        Place::AfterChoice => add_choice(tree, alloc, kind),
-        Place::FirstLiteral(_) => add_first_literal(tree, alloc, kind, text),
-        Place::NextLiteral(_) => add_literal(tree, alloc, kind, text),
-        Place::AfterLeft(_) => {
+        State::Statement => add_statement(tree, alloc, kind, text),
+        State::NextHead | State::FirstElement | State::NextElement | State::AfterNot(_) => {
+            add_name(tree, alloc, kind, text)
+        }
+        State::AfterLower => Ok(()),
+        State::AfterHead | State::AfterFact => add_head(tree, alloc, kind),
+        State::AfterChosen => add_chosen(tree, alloc, kind),
+        State::AfterChoice => add_choice(tree, alloc, kind),
+        State::AfterUpper => add_upper(tree, alloc, kind),
+        State::FirstLiteral(_) => add_first_literal(tree, alloc, kind, text),
+        State::NextLiteral(_) => add_literal(tree, alloc, kind, text),
+        State::AfterLeft(_) => {
             tree.op = op_of(kind);
             Ok(())
         }
-        Place::AfterOperator(_) => add_right(tree, alloc, kind, text),
-        Place::AfterLiteral(_) => add_close(tree, alloc, kind),
-        Place::AfterName(role) => add_after_name(tree, alloc, role, kind),
-        Place::FirstArgument(role) => add_first_argument(tree, alloc, role, kind, text),
-        Place::NextArgument(_) => add_next_argument(tree, alloc, kind, text),
-        Place::AfterArgument(role) => add_after_argument(tree, alloc, role, kind),
-        Place::AfterNumber(role) => add_after_number(tree, alloc, role, kind),
-        Place::AfterDots => add_high(tree, kind),
+        State::AfterOperator(_) => add_right(tree, alloc, kind, text),
+        State::AfterLiteral(_) => add_close(tree, alloc, kind),
+        State::AfterName(role) => add_after_name(tree, alloc, role, kind),
+        State::AfterMinus(_) => add_negated(tree, alloc, kind, text),
+        State::AfterNegated(role) => add_after_negated(tree, alloc, role, kind),
+        State::FirstArgument(role) => add_first_argument(tree, alloc, role, kind, text),
+        State::NextArgument(_) => add_next_argument(tree, alloc, kind, text),
+        State::AfterArgument(role) => add_after_argument(tree, alloc, role, kind),
+        State::AfterNumber(role) => add_after_number(tree, alloc, role, kind),
+        State::AfterDots => add_high(tree, kind),
     }
 }

@@ -1,15 +1,17 @@
 //! The whole text.
 ghost use Rattle.std.specs.Prelude.{◌≡◌, ◌≢◌, ◌+◌, ◌≤◌, ◌<◌, ◌⊎◌, [], ◌∷◌, ◌++◌, if◌then◌else◌, length, map, slice_range, IfOk, IfErr, OnOk};
+ghost use Rattle.asp_defs.specs.declared.faults.Which.TheVariants as which;
 ghost use Rattle.asp_defs.specs.Grammar.{IsText};
+ghost use Rattle.asp_defs.specs.Limits.{limit};
 ghost use Rattle.asp_defs.specs.TextRefusals.{IsRefused};
 ghost use Rattle.asp_lex.specs.Slices.{token_of, placed, StandBetween};
 ghost use Rattle.asp_grammar.specs.Machine as machine;
 
-use crate::parts::{add, no_atom, no_name};
-use crate::places::next_place;
+use crate::parts::{add, no_atom};
 use crate::refusals::refusal_at;
-use asp_defs::{Head, List, NoMemory, Op, Part, Program, Quant, Term, TextFault};
-use asp_grammar::{Builder, Place, Tree};
+use crate::states::next_state;
+use asp_defs::{Head, List, Name, NoMemory, Op, Part, Program, Quant, Term, TextFault};
+use asp_grammar::{Builder, State, Tree};
 use asp_lex::{Token, lex};
 use std::alloc::Global;
 
@@ -24,10 +26,11 @@ fn no_tree(alloc: Global) -> Tree
         rules: List::new(alloc),
         head: Head::Disj(List::new(alloc)),
         atoms: List::new(alloc),
+        lower: None,
         elements: List::new(alloc),
         element: no_atom(alloc),
         literals: List::new(alloc),
-        name: no_name(alloc),
+        name: Name::empty(),
         args: List::new(alloc),
         left: Term::Int(0),
         op: Op::Eq,
@@ -47,17 +50,17 @@ fn advance(builder: &mut Builder, alloc: Global, token: Token, text: &[u8]) -> R
     ensures stuck { IfErr result (λ fault. fault ≢ TextFault.NoMemory →
         machine.step builder.old (token_of token.kind text.now) ≡ None) }
     ensures refusal { IfErr result (λ fault. fault ≢ TextFault.NoMemory →
-        fault ≡ machine.refusal_at builder.old.place (token_of token.kind text.now) token.from) }
+        fault ≡ machine.refusal_at builder.old.state (token_of token.kind text.now) token.from) }
     ensures counted { OnOk result (builder.new.tree.anonymous ≤ builder.old.tree.anonymous + 1) }
 {
-    let place = builder.place;
-    match next_place(builder.tree.in_constraint, place, token.kind, text) {
+    let state = builder.state;
+    match next_state(builder.tree.in_constraint, state, token.kind, text) {
         Some(next) => {
-            add(&mut builder.tree, alloc, place, token.kind, text)?;
-            builder.place = next;
+            add(&mut builder.tree, alloc, state, token.kind, text)?;
+            builder.state = next;
             Ok(())
         }
-        None => Err(refusal_at(place, token.kind, text, token.from)),
+        None => Err(refusal_at(state, token.kind, text, token.from)),
     }
 }
 
@@ -76,7 +79,7 @@ fn text_of(bytes: &[u8], token: Token) -> &[u8]
 ///
 /// The refusal of the first token that can't come, and `NoMemory`.
 fn build(alloc: Global, bytes: &[u8], tokens: &[Token]) -> Result<Builder, TextFault>
-    requires long { length bytes.now ≤ 1048576 }
+    requires long { length bytes.now ≤ limit which.Bytes }
     requires sliced { StandBetween 0 (length bytes.now) tokens.now }
     ensures built { IfOk result (λ builder.
         machine.answer_from machine.start (map (placed bytes.now) tokens.now) ≡ machine.end_answer (machine.finish builder)) }
@@ -84,7 +87,7 @@ fn build(alloc: Global, bytes: &[u8], tokens: &[Token]) -> Result<Builder, TextF
         machine.answer_from machine.start (map (placed bytes.now) tokens.now) ≡ Err fault) }
 {
     let mut builder = Builder {
-        place: Place::Start,
+        state: State::Start,
         tree: no_tree(alloc),
     };
     for token in tokens {
@@ -135,9 +138,9 @@ fn finish(alloc: Global, builder: Builder) -> Result<Program, TextFault>
     ensures open { IfErr result (λ fault. fault ≢ TextFault.NoMemory →
         machine.end_answer (machine.finish builder) ≡ Err fault) }
 {
-    let Builder { place, tree } = builder;
-    match place {
-        Place::Statement => Ok(program_of(alloc, tree)?),
+    let Builder { state, tree } = builder;
+    match state {
+        State::Statement => Ok(program_of(alloc, tree)?),
         _ => Err(TextFault::Unfinished),
     }
 }
@@ -148,7 +151,7 @@ fn finish(alloc: Global, builder: Builder) -> Result<Program, TextFault>
 ///
 /// The refusal of the tokens, and `NoMemory`.
 fn parse(alloc: Global, bytes: &[u8], tokens: &[Token]) -> Result<Program, TextFault>
-    requires long { length bytes.now ≤ 1048576 }
+    requires long { length bytes.now ≤ limit which.Bytes }
     requires sliced { StandBetween 0 (length bytes.now) tokens.now }
     ensures program { IfOk result (λ program. machine.answer (map (placed bytes.now) tokens.now) ≡ Ok program) }
     ensures refusal { IfErr result (λ fault. fault ≢ TextFault.NoMemory →
@@ -167,10 +170,10 @@ fn parse(alloc: Global, bytes: &[u8], tokens: &[Token]) -> Result<Program, TextF
 ///
 /// The one refusal of the text: those of the lexer come first (`BadByte`, `BadNumber`, `OpenComment`), then `NoLevel`
 /// where there is no token, that of the first token with which the tokens so far begin no program (`BeforeLevel`,
-/// `UnknownDirective`, `AfterConstraint`, `NotYet`, `Unexpected`), or `Unfinished` where there is none. `NoMemory` where
-/// memory ran out.
+/// `UnknownDirective`, `AfterConstraint`, `Unexpected`), or `Unfinished` where there is none. `NoMemory` where memory
+/// ran out.
 pub fn read(alloc: Global, bytes: &[u8]) -> Result<Program, TextFault>
-    requires { length bytes.now ≤ 1048576 }
+    requires { length bytes.now ≤ limit which.Bytes }
     ensures text { IfOk result (λ program. IsText bytes.now program) }
     ensures refused { IfErr result (λ fault. fault ≢ TextFault.NoMemory → IsRefused bytes.now fault) }
     ensures only { (program : Program) → IsText bytes.now program →

@@ -34,9 +34,6 @@ returns-in-BeforeLevel g c = as_text (ap line_text (sym c.in-BeforeLevel.is)) c.
 pub returns-in-AfterConstraint : goal.returns-in-AfterConstraint
 returns-in-AfterConstraint g c = as_text (ap line_text (sym c.in-AfterConstraint.is)) c.print_around-in-AfterConstraint.ensures
 
-pub returns-in-NotYet : goal.returns-in-NotYet
-returns-in-NotYet g c = as_text (ap line_text (sym c.in-NotYet.is)) c.print_not_yet.ensures
-
 pub returns-in-Unexpected : goal.returns-in-Unexpected
 returns-in-Unexpected g c = as_text (ap line_text (sym c.in-Unexpected.is)) c.print_around-in-Unexpected.ensures
 

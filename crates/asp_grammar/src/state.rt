@@ -33,9 +33,9 @@ pub enum Role {
     Negative(Side),
 }
 
-/// A place in a text, by what stands before it.
+/// A state of the machine, by what stands before it in the text.
 #[derive(Debug, Clone, Copy, PartialEq, Eq)]
-pub enum Place {
+pub enum State {
     /// Nothing: a level's directive has to come.
     Start,
     /// A directive or a full stop: a statement may begin.
@@ -46,6 +46,8 @@ pub enum Place {
     AfterHead,
     /// An atom with an interval.
     AfterFact,
+    /// The lower bound of a choice.
+    AfterLower,
     /// The opening brace of a choice.
     FirstElement,
     /// A semicolon of a choice.
@@ -54,6 +56,8 @@ pub enum Place {
     AfterChosen,
     /// The closing brace of a choice.
     AfterChoice,
+    /// The upper bound of a choice.
+    AfterUpper,
     /// The arrow or the colon before literals.
     FirstLiteral(Side),
     /// A comma between literals.
@@ -68,6 +72,10 @@ pub enum Place {
     AfterLiteral(Side),
     /// A name that is an atom, begins one, or is the left side of a comparison.
     AfterName(Role),
+    /// A minus before the name of an atom.
+    AfterMinus(Role),
+    /// A minus and a name, which are an atom or begin one.
+    AfterNegated(Role),
     /// The opening parenthesis of arguments.
     FirstArgument(Role),
     /// A comma between arguments.
