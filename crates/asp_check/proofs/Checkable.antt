@@ -14,7 +14,7 @@ use Rattle.asp_defs.specs.declared.syntax.Part.{Part}
 use Rattle.asp_defs.specs.Tokens.{Token, without_places, RightBraceToken, RightParenToken, DotToken, ArrowToken, ColonToken}
 use Rattle.asp_defs.specs.Grammar.{Production, AllAt, JoinedAt, AnyJoinedAt, is_comma, is_semicolon, is_or, TermAt, AtomAt, LiteralAt, BodyAt, SignedBodyAt, ElementAt, HeadAt, FactAt, RuleAt, ConstraintAt, StatementAt, LevelAt, ConstraintPartAt}
 use Rattle.asp_defs.proofs.Lists.{and_true, both}
-use Rattle.asp_check.specs.Condition.{is_single, is_single_atom, is_single_literal, is_single_element, is_single_head, is_fact, has_intervals_in_facts}
+use Rattle.asp_checked.specs.Condition.{is_single, is_single_atom, is_single_literal, is_single_element, is_single_head, is_fact, has_intervals_in_facts}
 use Rattle.asp_check.specs.Laws.{ProgramsAreCheckable, TextsAreCheckable}
 use Rattle.asp_check.proofs.Rules.{rules_are}
 
@@ -64,7 +64,7 @@ element_single e ts rest h =
 
 head_single : (head : Head) (ts rest : List Token) → HeadAt head ts rest → is_single_head head ≡ true
 head_single (Disj atoms) ts rest h = joined_pass is_or AtomAt is_single_atom atom_single atoms ts rest h
-head_single (Choice elements) ts rest h = any_pass is_semicolon ElementAt is_single_element element_single elements h.0 (RightBraceToken ∷ rest) h.2
+head_single (Choice low elements high) ts rest h = any_pass is_semicolon ElementAt is_single_element element_single elements h.0 (RightBraceToken ∷ h.1) h.3
 
 -- a rule without intervals passes, a fact or not
 without : (fact : Bool) (head body : Bool) → head ≡ true → body ≡ true → cond fact true (head && body) ≡ true

@@ -4,7 +4,7 @@ pub mod Sets
 pub mod Spreading
 pub mod Steps
 pub mod Places
-pub mod Leading
+pub mod Representing
 pub mod Safe
 pub mod Beside
 pub mod Unsafe

@@ -1,13 +1,12 @@
 -- Variables of lists: tests and members.
-use Rattle.std.proofs.Common.{◌≡◌, refl, sym, subst, inl, inr, Bool, true, false, List, [], ◌∷◌}
-use Rattle.std.specs.List.{flat_map}
+use Rattle.std.proofs.Common.{◌≡◌, refl, sym, subst, Bool, true, false, List}
 use Rattle.std.specs.Cmp.Lexicographic.{bytes_decides}
 use Rattle.std.proofs.lemmas.Bool.{eq-eqb}
 use Rattle.asp_defs.specs.declared.syntax.Term.{Term}
 use Rattle.asp_defs.specs.Lists.{IsIn}
 use Rattle.asp_defs.specs.Instances.{same_variable}
 use Rattle.asp_defs.specs.Safety.{is_variable_of}
-use Rattle.asp_defs.proofs.Lists.{any_at, any_from, append_at, append_left, append_right}
+use Rattle.asp_defs.proofs.Lists.{any_at, any_from}
 use Rattle.asp_defs.proofs.SafetyLaws.{equal}
 use Rattle.asp_check.specs.declared.variables.Variable.{Variable}
 use Rattle.asp_check.specs.declared.variables.Variable.TheVariants as variants
@@ -41,16 +40,3 @@ same_truth false false f g = refl
 pub same_test : (us vs : List Term) → Within us vs → Within vs us → (v : Term) → is_variable_of us v ≡ is_variable_of vs v
 same_test us vs more less v =
     same_truth (is_variable_of us v) (is_variable_of vs v) (test_more us vs more v) (test_more vs us less v)
-
--- members of joined lists
-pub flat_at : {A B : Type 0} (f : A → List B) (xs : List A) (v : B) → IsIn v (flat_map f xs) → (x : A) × IsIn x xs × IsIn v (f x)
-flat_at f [] v i = absurd i
-flat_at f (x ∷ xs) v i = elim (append_at (f x) (flat_map f xs) v i) [
-  | inl h ↦ (x, inl refl, h)
-  | inr h ↦ let found = flat_at f xs v h in (found.0, inr found.1, found.2)
-]
-
-pub flat_from : {A B : Type 0} (f : A → List B) (xs : List A) (x : A) (v : B) → IsIn x xs → IsIn v (f x) → IsIn v (flat_map f xs)
-flat_from f [] x v i h = absurd i
-flat_from f (y ∷ ys) x v (inl e) h = append_left (f y) (flat_map f ys) v (subst (λ z. IsIn v (f z)) e h)
-flat_from f (y ∷ ys) x v (inr i) h = append_right (f y) (flat_map f ys) v (flat_from f ys x v i h)

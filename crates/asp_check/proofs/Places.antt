@@ -20,7 +20,7 @@ use Rattle.asp_defs.proofs.SafetyLaws.{equal}
 use Rattle.asp_check.proofs.Members.{itself}
 use Rattle.asp_check.proofs.Sets.{eq_is}
 use Rattle.asp_check.proofs.Spreading.{follows_none, follows_more}
-use Rattle.asp_check.proofs.Steps.{get_is_in}
+use Rattle.asp_walk.proofs.Lists.{get_is_in}
 
 -- a look-up by `==` is one by terms
 pub lookup_is : (entries : List (Variable × ℕ)) (v : Variable) → lookup ((eq-value).it v) entries ≡ last_of entries (term_of v)

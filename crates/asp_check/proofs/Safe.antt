@@ -18,9 +18,10 @@ use Rattle.asp_check.specs.declared.variables.Variable.{Variable}
 use Rattle.asp_check.specs.Variables.{term_of, terms_of}
 use Rattle.asp_check.specs.Bindings.{bound_alone, pairs, literal_links}
 use Rattle.asp_check.specs.Closure.{Within, IsSpread, IsLeast}
-use Rattle.asp_check.specs.Leaders.{IsSymmetric}
+use Rattle.asp_check.specs.Representatives.{IsSymmetric}
 use Rattle.asp_check.specs.Safe.{Agree}
-use Rattle.asp_check.proofs.Members.{itself, member_at, member_from, same_test, flat_at, flat_from}
+use Rattle.asp_check.proofs.Members.{itself, member_at, member_from, same_test}
+use Rattle.asp_walk.proofs.Lists.{flat_at, flat_from}
 
 -- a settled term has no variable, or one that is safe
 settled_cases : (S : List Term) (t : Term) → is_settled S t ≡ true → (is_settled [] t ≡ true) ⊎ ((w : Term) × IsIn w (term_variables t) × IsIn w S)

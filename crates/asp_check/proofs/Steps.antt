@@ -1,8 +1,7 @@
 -- One step of a loop over variables or links.
-use Rattle.std.proofs.Common.{ℕ, ◌≡◌, ◌+◌, ◌<◌, sym, ◌∙◌, ap, subst, refl, zero, suc, inl, inr, List, [], ◌∷◌, ◌++◌, map, length, get_or, take, arith}
+use Rattle.std.proofs.Common.{ℕ, ◌≡◌, ◌+◌, ◌<◌, sym, ◌∙◌, ap, subst, refl, List, [], ◌∷◌, ◌++◌, map, length, get_or, take, arith}
 use Rattle.std.proofs.lemmas.List.{take_more, map-append}
 use Rattle.asp_defs.specs.declared.syntax.Term.{Term}
-use Rattle.asp_defs.specs.Lists.{IsIn}
 use Rattle.asp_check.specs.declared.variables.Variable.{Variable}
 use Rattle.asp_check.specs.Variables.{term_of, terms_of}
 use Rattle.asp_check.specs.Closure.{Settles, Gathers}
@@ -10,11 +9,6 @@ use Rattle.asp_check.proofs.Spreading.{gathers_more}
 
 pub map_more : {A B : Type 0} (f : A → B) (xs : List A) (i : ℕ) (d : A) → i < length xs → map f (take (i + 1) xs) ≡ map f (take i xs) ++ f (get_or xs i d) ∷ []
 map_more f xs i d h = ap (map f) (take_more xs i d h) ∙ map-append f (take i xs) (get_or xs i d ∷ [])
-
-pub get_is_in : {A : Type 0} (xs : List A) (i : ℕ) (d : A) → i < length xs → IsIn (get_or xs i d) xs
-get_is_in [] i d h = absurd (omega arith)
-get_is_in (x ∷ xs) zero d h = inl refl
-get_is_in (x ∷ xs) (suc i) d h = inr (get_is_in xs i d (omega arith))
 
 pub none_left : {A : Type 0} (xs : List A) → length xs ≡ 0 → xs ≡ []
 none_left [] e = refl

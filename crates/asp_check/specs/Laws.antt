@@ -3,7 +3,7 @@ use Rattle.std.specs.Prelude.{ℕ, List}
 use Rattle.asp_defs.specs.declared.syntax.Program.{Program}
 use Rattle.asp_defs.specs.Tokens.{Token}
 use Rattle.asp_defs.specs.Grammar.{IsProgram, IsText}
-use Rattle.asp_check.specs.Condition.{IsCheckable}
+use Rattle.asp_checked.specs.Condition.{IsCheckable}
 
 -- a program of tokens can be checked
 abbrev pub ProgramsAreCheckable : Type 0

@@ -4,7 +4,7 @@ pub mod Closure
 pub mod Safe
 pub mod Counts
 pub mod Refusals
-pub mod Condition
+pub use Rattle.asp_checked.specs.Condition
 pub mod Laws
 pub mod Index
-pub mod Leaders
+pub mod Representatives

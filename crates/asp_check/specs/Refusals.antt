@@ -5,7 +5,7 @@ use Rattle.asp_defs.specs.Checks.{UnsafeRule, HeadedRule, PastLimit, check_refus
 use Rattle.asp_check.specs.declared.checks.CheckFault.{CheckFault}
 use Rattle.asp_check.specs.declared.checks.CheckFault.TheVariants.{Unsafe, NotConstraint, TooLarge, NoMemory}
 
--- the fault is the program's first refusal; want of memory says nothing
+-- the fault is the program's first refusal; out of memory says nothing
 abbrev pub IsRefusal : Program → CheckFault → Type 0
 IsRefusal p (Unsafe number variable) = check_refusal p ≡ Some (UnsafeRule number variable)
 IsRefusal p (NotConstraint number) = check_refusal p ≡ Some (HeadedRule number)

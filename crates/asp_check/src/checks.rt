@@ -1,17 +1,17 @@
 //! The checks of a program.
-ghost use Rattle.std.specs.Prelude.{◌≡◌, ◌+◌, ◌++◌, ◌<◌, ◌^◌, None, map, length, IfOk, IfErr, IsTrue, OnOk};
+ghost use Rattle.std.specs.Prelude.{◌≡◌, ◌+◌, ◌++◌, ◌<◌, ◌^◌, None, map, length, IfOk, IfErr, OnOk};
 ghost use Rattle.asp_defs.specs.Safety.{all_rules, first_unsafe_from, shown_number};
 ghost use Rattle.asp_defs.specs.ConstraintPart.{first_headed_from, headed_in};
 ghost use Rattle.asp_defs.specs.Limits.{too_large_in};
-ghost use Rattle.asp_defs.specs.Checks.{check_refusal, is_checked};
-ghost use Rattle.asp_check.specs.Condition.{IsCheckable};
+ghost use Rattle.asp_defs.specs.Checks.{check_refusal};
+ghost use Rattle.asp_checked.specs.Condition.{IsCheckable};
 ghost use Rattle.asp_check.specs.Refusals.{IsRefusal};
 
 use crate::counts::{most_arguments, most_literals, most_variables};
 use crate::safety::{first_unsafe, shown};
+use asp_checked::Checked;
 use asp_defs::{NoMemory, Program, Rule, Var, Which};
 use std::alloc::{AllocError, Global};
-use std::marker::Model;
 use thiserror::Error;
 
 /// Why a program is refused. Rules are numbered from 1 through the whole text, the constraint part included; a greater
@@ -147,37 +147,6 @@ pub(crate) fn judge(alloc: Global, program: &Program) -> Result<(), CheckFault>
     }
 }
 
-/// A program that passes the checks: each of its variables is safe, its constraint part has constraints alone, and it
-/// keeps the limits on levels, arguments, literals and variables. Contracts see it as its program.
-#[derive(Debug, Drop)]
-pub struct Checked {
-    program: Program,
-}
-
-impl Model for Checked {
-    ghost use Rattle.std.specs.Prelude.{IsTrue};
-    ghost use Rattle.asp_defs.specs.declared.syntax.Program.{Program};
-    ghost use Rattle.asp_defs.specs.Checks.{is_checked};
-    ghost use Rattle.asp_check.specs.Condition.{IsCheckable};
-
-    ghost Value = { Program };
-
-    ghost view = { λ c. c.program };
-
-    ghost invariant = { λ c. IsTrue (is_checked c.program) × IsCheckable c.program };
-}
-
-impl Checked {
-    /// The program.
-    pub fn program(&self) -> &Program
-        ensures program { result.now ≡ self.now }
-        ensures checked { IsTrue (is_checked self.now) }
-        ensures checkable { IsCheckable self.now }
-    {
-        &self.program
-    }
-}
-
 /// Checks a program, which stands in the answer as it was given. On a refusal it is given up.
 ///
 /// # Errors
@@ -191,5 +160,5 @@ pub fn check(alloc: Global, program: Program) -> Result<Checked, CheckFault>
     ensures refused { IfErr result (IsRefusal program) }
 {
     judge(alloc, &program)?;
-    Ok(Checked { program })
+    Ok(Checked::new(program))
 }

@@ -56,7 +56,7 @@ fn rule_literals(rule: &Rule) -> u64
 {
     let head = match &rule.head {
         Head::Disj(atoms) => atoms.len() as u64,
-        Head::Choice(elements) => elements_literals(elements.as_slice()),
+        Head::Choice(_, elements, _) => elements_literals(elements.as_slice()),
     };
     head.saturating_add(rule.body.len() as u64)
 }

@@ -17,12 +17,12 @@ ghost use Rattle.asp_defs.specs.Safety.{
 ghost use Rattle.asp_check.specs.Variables.{term_of, terms_of};
 ghost use Rattle.asp_check.specs.Bindings.{bound_alone, literal_links, links_of};
 ghost use Rattle.asp_check.specs.Closure.{IsLeast};
-ghost use Rattle.asp_check.specs.Leaders.{LeadAll, leader_links};
+ghost use Rattle.asp_check.specs.Representatives.{RepresentAll, representative_links};
 ghost use Rattle.asp_check.specs.Safe.{AgreeOn, Agree, element_unsafe};
 
 use crate::bindings::add_bindings;
 use crate::closure::{close, has, settle_all};
-use crate::leaders::{add_leaders, leaders_of};
+use crate::representatives::{add_representatives, representatives_of};
 use crate::variables::{Variable, variables};
 use asp_defs::{Element, Head, Literal, Name, NoMemory, Rule, Var};
 use asp_walk::Terms;
@@ -74,58 +74,58 @@ fn safe_of_body<'a>(alloc: Global, body: &'a [Literal]) -> Result<HashSet<Variab
     close(alloc, bound.as_slice(), links.as_slice())
 }
 
-/// The leaders of the variables that a body's equations join.
-fn leaders_of_body<'a>(
+/// The representatives of the variables that a body's equations join.
+fn representatives_of_body<'a>(
     alloc: Global,
     body: &'a [Literal],
 ) -> Result<HashMap<Variable<'a>, Variable<'a>>, NoMemory>
-    ensures { IfOk result (λ leaders. LeadAll (flat_map literal_links body.now) leaders.entries) }
+    ensures { IfOk result (λ representatives. RepresentAll (flat_map literal_links body.now) representatives.entries) }
 {
     let mut bound = Vec::new(alloc);
     let mut links = Vec::new(alloc);
     add_bindings(&mut bound, &mut links, body)?;
-    leaders_of(alloc, links.as_slice())
+    representatives_of(alloc, links.as_slice())
 }
 
-/// The least variables by an element's condition, by what a body has of the element's variables, and by leaders.
+/// The least variables by an element's condition, by what a body has of the element's variables, and by representatives.
 fn safe_beside<'a>(
     alloc: Global,
     safe: &HashSet<Variable<'a>>,
-    leaders: &HashMap<Variable<'a>, Variable<'a>>,
+    representatives: &HashMap<Variable<'a>, Variable<'a>>,
     cond: &'a [Literal],
     variables: &[Variable<'a>],
 ) -> Result<HashSet<Variable<'a>>, NoMemory>
     ensures { IfOk result (λ set. IsLeast
         (flat_map bound_alone cond.now ++ filter (is_variable_of (terms_of safe.now.keys)) (terms_of variables.now))
-        (flat_map literal_links cond.now ++ flat_map (leader_links leaders.now.entries) (terms_of variables.now))
+        (flat_map literal_links cond.now ++ flat_map (representative_links representatives.now.entries) (terms_of variables.now))
         (terms_of set.keys)) }
 {
     let mut bound = Vec::new(alloc);
     let mut links = Vec::new(alloc);
     add_bindings(&mut bound, &mut links, cond)?;
     add_common(&mut bound, safe, variables)?;
-    add_leaders(&mut links, leaders, variables)?;
+    add_representatives(&mut links, representatives, variables)?;
     close(alloc, bound.as_slice(), links.as_slice())
 }
 
-/// The safe ones of an element's variables. The safe ones and the leaders of the body's are known, so that its literals
-/// aren't looked at again.
+/// The safe ones of an element's variables. The safe ones and the representatives of the body's are known, so that its
+/// literals aren't looked at again.
 fn safe_of_element<'a>(
     alloc: Global,
     body: &'a [Literal],
     safe: &HashSet<Variable<'a>>,
-    leaders: &HashMap<Variable<'a>, Variable<'a>>,
+    representatives: &HashMap<Variable<'a>, Variable<'a>>,
     element: &'a Element,
     variables: &[Variable<'a>],
 ) -> Result<HashSet<Variable<'a>>, NoMemory>
     requires safe { Agree (terms_of safe.now.keys) (safe_variables body.now) }
-    requires leaders { LeadAll (flat_map literal_links body.now) leaders.now.entries }
+    requires representatives { RepresentAll (flat_map literal_links body.now) representatives.now.entries }
     requires variables { terms_of variables.now ≡ element_variables element.now }
     ensures { IfOk result (λ set. AgreeOn (terms_of variables.now) (terms_of set.keys)
         (safe_variables (body.now ++ element.now.cond))) }
 {
     let cond = element.cond.as_slice();
-    safe_beside(alloc, safe, leaders, cond, variables)
+    safe_beside(alloc, safe, representatives, cond, variables)
 }
 
 /// Adds the unsafe variables of an element.
@@ -134,15 +134,22 @@ fn add_element_unsafe<'a>(
     out: &mut Vec<Variable<'a>>,
     body: &'a [Literal],
     safe: &HashSet<Variable<'a>>,
-    leaders: &HashMap<Variable<'a>, Variable<'a>>,
+    representatives: &HashMap<Variable<'a>, Variable<'a>>,
     element: &'a Element,
 ) -> Result<(), NoMemory>
     requires safe { Agree (terms_of safe.now.keys) (safe_variables body.now) }
-    requires leaders { LeadAll (flat_map literal_links body.now) leaders.now.entries }
+    requires representatives { RepresentAll (flat_map literal_links body.now) representatives.now.entries }
     ensures { OnOk result (terms_of out.new.items ≡ terms_of out.old.items ++ element_unsafe body.now element.now) }
 {
     let variables = variables(alloc, Terms::of_element(element))?;
-    let set = safe_of_element(alloc, body, safe, leaders, element, variables.as_slice())?;
+    let set = safe_of_element(
+        alloc,
+        body,
+        safe,
+        representatives,
+        element,
+        variables.as_slice(),
+    )?;
     add_others(out, &set, variables.as_slice())
 }
 
@@ -152,16 +159,16 @@ fn add_elements_unsafe<'a>(
     out: &mut Vec<Variable<'a>>,
     body: &'a [Literal],
     safe: &HashSet<Variable<'a>>,
-    leaders: &HashMap<Variable<'a>, Variable<'a>>,
+    representatives: &HashMap<Variable<'a>, Variable<'a>>,
     elements: &'a [Element],
 ) -> Result<(), NoMemory>
     requires safe { Agree (terms_of safe.now.keys) (safe_variables body.now) }
-    requires leaders { LeadAll (flat_map literal_links body.now) leaders.now.entries }
+    requires representatives { RepresentAll (flat_map literal_links body.now) representatives.now.entries }
     ensures { OnOk result (terms_of out.new.items
         ≡ terms_of out.old.items ++ flat_map (element_unsafe body.now) elements.now) }
 {
     for element in elements {
-        add_element_unsafe(alloc, out, body, safe, leaders, element)?;
+        add_element_unsafe(alloc, out, body, safe, representatives, element)?;
     }
     Ok(())
 }
@@ -182,9 +189,16 @@ fn add_head_unsafe<'a>(
             let variables = variables(alloc, Terms::of_atoms(atoms.as_slice()))?;
             add_others(out, safe, variables.as_slice())
         }
-        Head::Choice(elements) => {
-            let leaders = leaders_of_body(alloc, body)?;
-            add_elements_unsafe(alloc, out, body, safe, &leaders, elements.as_slice())
+        Head::Choice(_, elements, _) => {
+            let representatives = representatives_of_body(alloc, body)?;
+            add_elements_unsafe(
+                alloc,
+                out,
+                body,
+                safe,
+                &representatives,
+                elements.as_slice(),
+            )
         }
     }
 }

@@ -35,7 +35,7 @@ literals_variables_are = nested term_variables literal_terms literal_variables l
 
 head_variables_are : (h : Head) → flat_map literal_variables (head_written h) ≡ head_variables h
 head_variables_are (Disj atoms) = flat_map-map literal_variables Pos atoms
-head_variables_are (Choice elements) = nested literal_variables element_written element_variables (λ e. refl) elements
+head_variables_are (Choice low elements high) = nested literal_variables element_written element_variables (λ e. refl) elements
 
 pub rule_variables_are : (r : Rule) → flat_map term_variables (rule_terms r) ≡ rule_variables r
 rule_variables_are r =
@@ -59,7 +59,7 @@ literal_constants_are (Cmp x op y) = ap (λ cs. term_constants x ++ cs) (append-
 
 head_constants_are : (h : Head) → flat_map literal_constants (head_written h) ≡ head_constants h
 head_constants_are (Disj atoms) = flat_map-map literal_constants Pos atoms
-head_constants_are (Choice elements) = nested literal_constants element_written element_constants (λ e. refl) elements
+head_constants_are (Choice low elements high) = nested literal_constants element_written element_constants (λ e. refl) elements
 
 pub rule_constants_are : (r : Rule) → flat_map term_constants (rule_terms r) ≡ rule_constants r
 rule_constants_are r =
@@ -70,7 +70,7 @@ rule_constants_are r =
 
 head_atoms_are : (h : Head) → flat_map literal_atoms (head_written h) ≡ head_atoms h
 head_atoms_are (Disj atoms) = flat_map-map literal_atoms Pos atoms ∙ (flat_map_single (λ a. a) atoms ∙ map-id atoms)
-head_atoms_are (Choice elements) = nested literal_atoms element_written element_atoms (λ e. refl) elements
+head_atoms_are (Choice low elements high) = nested literal_atoms element_written element_atoms (λ e. refl) elements
 
 pub rule_atoms_are : (r : Rule) → flat_map literal_atoms (rule_written r) ≡ rule_atoms r
 rule_atoms_are r = both literal_atoms (head_written r.head) r.body (head_atoms r.head) (head_atoms_are r.head)
@@ -85,7 +85,7 @@ literals_predicates_are = nested_map atom_predicate literal_atoms literal_predic
 
 head_predicates_are : (h : Head) → map atom_predicate (head_atoms h) ≡ head_predicates h
 head_predicates_are (Disj atoms) = refl
-head_predicates_are (Choice elements) =
+head_predicates_are (Choice low elements high) =
     nested_map atom_predicate element_atoms element_predicates (λ e. ap (λ ps. atom_predicate e.atom ∷ ps) (literals_predicates_are e.cond)) elements
 
 pub rule_predicates_are : (r : Rule) → map atom_predicate (rule_atoms r) ≡ rule_predicates r

@@ -25,7 +25,7 @@ elements_written = flat_map element_written
 
 abbrev pub head_written : Head → List Literal
 head_written (Disj atoms) = atoms_written atoms
-head_written (Choice elements) = elements_written elements
+head_written (Choice low elements high) = elements_written elements
 
 abbrev pub rule_written : Rule → List Literal
 rule_written r = head_written r.head ++ r.body

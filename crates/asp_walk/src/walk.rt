@@ -87,7 +87,7 @@ impl<'a> Walk<'a> {
         let body = rule.body.as_slice();
         match &rule.head {
             Head::Disj(atoms) => Walk::of_atoms(atoms.as_slice(), body),
-            Head::Choice(elements) => Walk::of_elements(elements.as_slice(), body),
+            Head::Choice(_, elements, _) => Walk::of_elements(elements.as_slice(), body),
         }
     }
 }

@@ -10,7 +10,7 @@ use Rattle.asp_defs.proofs.Lists.{append_right}
 use Rattle.asp_check.specs.Variables.{terms_of}
 use Rattle.asp_check.specs.Bindings.{bound_alone, literal_links}
 use Rattle.asp_check.specs.Closure.{Within, IsLeast}
-use Rattle.asp_check.specs.Leaders.{leader_links}
+use Rattle.asp_check.specs.Representatives.{representative_links}
 use Rattle.asp_check.specs.Safe.{AgreeOn}
 use Rattle.asp_check.proofs.Beside.{safe_beside}
 use Rattle.asp_check.proofs.safety.safe_of_element.Goals as goal
@@ -23,8 +23,8 @@ returns c =
     (subst (λ (ls : List Literal). IsIn v (flat_map literal_variables ls)) c.as_slice-cond.ensures i)) in
     IfOk-weaker c.safe_beside.result
     (λ set. IsLeast (flat_map bound_alone c.as_slice-cond.result.now ++ filter (is_variable_of (terms_of c.args.safe.now.keys)) (terms_of c.args.variables.now))
-    (flat_map literal_links c.as_slice-cond.result.now ++ flat_map (leader_links c.args.leaders.now.entries) (terms_of c.args.variables.now)) (terms_of set.keys))
+    (flat_map literal_links c.as_slice-cond.result.now ++ flat_map (representative_links c.args.representatives.now.entries) (terms_of c.args.variables.now)) (terms_of set.keys))
     (λ set. AgreeOn (terms_of c.args.variables.now) (terms_of set.keys) (safe_variables (c.args.body.now ++ c.args.element.now.cond)))
     (λ set least. subst (λ (ls : List Literal). AgreeOn (terms_of c.args.variables.now) (terms_of set.keys) (safe_variables (c.args.body.now ++ ls))) c.as_slice-cond.ensures
-    (safe_beside c.args.body.now c.as_slice-cond.result.now c.args.variables.now (terms_of c.args.safe.now.keys) (terms_of set.keys) c.args.leaders.now.entries c.requires.safe c.requires.leaders own least))
+    (safe_beside c.args.body.now c.as_slice-cond.result.now c.args.variables.now (terms_of c.args.safe.now.keys) (terms_of set.keys) c.args.representatives.now.entries c.requires.safe c.requires.representatives own least))
     c.safe_beside.ensures

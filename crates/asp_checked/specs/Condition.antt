@@ -35,14 +35,14 @@ is_single_element e = is_single_atom e.atom && list_all is_single_literal e.cond
 
 abbrev pub is_single_head : Head → Bool
 is_single_head (Disj atoms) = list_all is_single_atom atoms
-is_single_head (Choice elements) = list_all is_single_element elements
+is_single_head (Choice low elements high) = list_all is_single_element elements
 
 -- whether a head is that of a fact: one atom of a disjunction
 abbrev pub is_fact_head : Head → Bool
 is_fact_head (Disj []) = false
 is_fact_head (Disj (a ∷ [])) = true
 is_fact_head (Disj (a ∷ b ∷ more)) = false
-is_fact_head (Choice elements) = false
+is_fact_head (Choice low elements high) = false
 
 abbrev pub is_fact : Rule → Bool
 is_fact r = is_fact_head r.head && is_empty r.body

@@ -1,4 +1,4 @@
--- How leaders are found.
+-- How representatives are found.
 use Rattle.std.proofs.Common.{ℕ, ◌≡◌, ◌⊎◌, ◌+◌, ◌<◌, refl, sym, ◌∙◌, ap, subst, inl, inr, Bool, true, false, not, cond, List, [], ◌∷◌, ◌++◌, length, get_or, take, Option, Some, None}
 use Rattle.std.specs.Prelude.{if◌then◌else◌, option_map, is_some}
 use Rattle.std.specs.List.{filter}
@@ -15,19 +15,20 @@ use Rattle.asp_check.specs.contracts.variables.VariablePartialEq.TheImpl.{eq-val
 use Rattle.asp_check.specs.Variables.{term_of, terms_of}
 use Rattle.asp_check.specs.Bindings.{link_of, links_of}
 use Rattle.asp_check.specs.Closure.{Within, IsSpread, IsLeast}
-use Rattle.asp_check.specs.Leaders.{IsSymmetric, AreJoined, leader_of, IsLed, Lead, LeadSome, Leads, Keeps}
+use Rattle.asp_check.specs.Representatives.{IsSymmetric, AreJoined, representative_of, IsRepresented, Represent, RepresentSome, Represents, Keeps}
 use Rattle.asp_defs.proofs.SafetyLaws.{equal}
 use Rattle.asp_check.proofs.Members.{itself, member_at, member_from, same_truth}
 use Rattle.asp_check.proofs.Sets.{eq_is}
 use Rattle.asp_check.proofs.Safe.{variable_self}
-use Rattle.asp_check.proofs.Steps.{map_more, get_is_in}
+use Rattle.asp_check.proofs.Steps.{map_more}
+use Rattle.asp_walk.proofs.Lists.{get_is_in}
 
 -- a look-up by `==` is one by terms
-pub led_is : (entries : List (Variable × Variable)) (v : Variable) → lookup ((eq-value).it v) entries ≡ lookup (λ w. same_variable (term_of v) (term_of w)) entries
-led_is [] v = refl
-led_is (e ∷ entries) v =
+pub represented_is : (entries : List (Variable × Variable)) (v : Variable) → lookup ((eq-value).it v) entries ≡ lookup (λ w. same_variable (term_of v) (term_of w)) entries
+represented_is [] v = refl
+represented_is (e ∷ entries) v =
     ap (λ b. cond b (Some e.1) (lookup ((eq-value).it v) entries)) (eq_is v e.0)
-    ∙ ap (λ o. cond (same_variable (term_of v) (term_of e.0)) (Some e.1) o) (led_is entries v)
+    ∙ ap (λ o. cond (same_variable (term_of v) (term_of e.0)) (Some e.1) o) (represented_is entries v)
 
 -- the value of an option, or another
 abbrev some_or : Term → Option Term → Term
@@ -38,29 +39,29 @@ abbrev has_term : Option Term → Bool
 has_term None = false
 has_term (Some t) = true
 
-pub some_led : (o : Option Variable) (leader : Option Term) → option_map term_of o ≡ leader → is_some o ≡ true → (r : Term) × (leader ≡ Some r)
-some_led None leader e h = clash h
-some_led (Some v) leader e h = (term_of v, sym e)
+pub some_represented : (o : Option Variable) (representative : Option Term) → option_map term_of o ≡ representative → is_some o ≡ true → (r : Term) × (representative ≡ Some r)
+some_represented None representative e h = clash h
+some_represented (Some v) representative e h = (term_of v, sym e)
 
--- a leader is a variable
+-- a representative is a variable
 variable_itself : (o : Option Variable) (r : Term) → option_map term_of o ≡ Some r → same_variable r r ≡ true
 variable_itself None r e = clash (ap has_term e)
 variable_itself (Some v) r e = subst (λ t. same_variable t t ≡ true) (ap (some_or r) e) (itself v)
 
-pub leader_itself : (entries : List (Variable × Variable)) (u r : Term) → leader_of entries u ≡ Some r → same_variable r r ≡ true
-leader_itself entries u r e = variable_itself (lookup (λ v. same_variable u (term_of v)) entries) r e
+pub representative_itself : (entries : List (Variable × Variable)) (u r : Term) → representative_of entries u ≡ Some r → same_variable r r ≡ true
+representative_itself entries u r e = variable_itself (lookup (λ v. same_variable u (term_of v)) entries) r e
 
--- ---- variables get a leader
+-- ---- variables get a representative
 
 abbrev entry_of : Bool → Term → Option Term → Option Term
 entry_of b r o = if b then Some r else o
 
-pub leads_none : (before : List (Variable × Variable)) (r : Term) → Leads before before [] r
-leads_none before r v = refl
+pub represents_none : (before : List (Variable × Variable)) (r : Term) → Represents before before [] r
+represents_none before r v = refl
 
-pub leads_step : (xs : List Variable) (i : ℕ) (d : Variable) → i < length xs → (before mid after : List (Variable × Variable)) (leader : Variable) → Leads before mid (terms_of (take i xs)) (term_of leader) → ((q : Variable) → lookup ((eq-value).it q) after ≡ cond ((eq-value).it (get_or xs i d) q) (Some leader) (lookup ((eq-value).it q) mid)) → Leads before after (terms_of (take (i + 1) xs)) (term_of leader)
-leads_step xs i d h before mid after leader old updates v =
-    ap (option_map term_of) (sym (led_is after v) ∙ updates v) ∙ go (true_or_false ((eq-value).it (get_or xs i d) v))
+pub represents_step : (xs : List Variable) (i : ℕ) (d : Variable) → i < length xs → (before mid after : List (Variable × Variable)) (representative : Variable) → Represents before mid (terms_of (take i xs)) (term_of representative) → ((q : Variable) → lookup ((eq-value).it q) after ≡ cond ((eq-value).it (get_or xs i d) q) (Some representative) (lookup ((eq-value).it q) mid)) → Represents before after (terms_of (take (i + 1) xs)) (term_of representative)
+represents_step xs i d h before mid after representative old updates v =
+    ap (option_map term_of) (sym (represented_is after v) ∙ updates v) ∙ go (true_or_false ((eq-value).it (get_or xs i d) v))
   where
     more : terms_of (take (i + 1) xs) ≡ terms_of (take i xs) ++ term_of (get_or xs i d) ∷ []
     more = map_more term_of xs i d h
@@ -88,24 +89,24 @@ leads_step xs i d h before mid after leader old updates v =
         (λ t. member_from (terms_of (take i xs) ++ term_of (get_or xs i d) ∷ []) (term_of v) (itself v)
         (append_left (terms_of (take i xs)) (term_of (get_or xs i d) ∷ []) (term_of v) (member_at (terms_of (take i xs)) (term_of v) t)))
 
-    go : ((eq-value).it (get_or xs i d) v ≡ true) ⊎ ((eq-value).it (get_or xs i d) v ≡ false) → option_map term_of (cond ((eq-value).it (get_or xs i d) v) (Some leader) (lookup ((eq-value).it v) mid)) ≡ entry_of (is_variable_of (terms_of (take (i + 1) xs)) (term_of v)) (term_of leader) (leader_of before (term_of v))
+    go : ((eq-value).it (get_or xs i d) v ≡ true) ⊎ ((eq-value).it (get_or xs i d) v ≡ false) → option_map term_of (cond ((eq-value).it (get_or xs i d) v) (Some representative) (lookup ((eq-value).it v) mid)) ≡ entry_of (is_variable_of (terms_of (take (i + 1) xs)) (term_of v)) (term_of representative) (representative_of before (term_of v))
     go (inl e) =
-        ap (λ (b : Bool). option_map term_of (cond b (Some leader) (lookup ((eq-value).it v) mid))) e
-        ∙ sym (ap (λ (b : Bool). entry_of b (term_of leader) (leader_of before (term_of v))) (here e))
+        ap (λ (b : Bool). option_map term_of (cond b (Some representative) (lookup ((eq-value).it v) mid))) e
+        ∙ sym (ap (λ (b : Bool). entry_of b (term_of representative) (representative_of before (term_of v))) (here e))
     go (inr e) =
-        ap (λ (b : Bool). option_map term_of (cond b (Some leader) (lookup ((eq-value).it v) mid))) e
-        ∙ (ap (option_map term_of) (led_is mid v)
-        ∙ (old v ∙ sym (ap (λ (b : Bool). entry_of b (term_of leader) (leader_of before (term_of v))) (same e))))
+        ap (λ (b : Bool). option_map term_of (cond b (Some representative) (lookup ((eq-value).it v) mid))) e
+        ∙ (ap (option_map term_of) (represented_is mid v)
+        ∙ (old v ∙ sym (ap (λ (b : Bool). entry_of b (term_of representative) (representative_of before (term_of v))) (same e))))
 
-pub leads_kept : (before after : List (Variable × Variable)) (R : List Term) (n : Term) → Leads before after R n → Keeps before after
-leads_kept before after R n leads v led = elim (true_or_false (is_variable_of R (term_of v))) [
-  | inl h ↦ (n, leads v ∙ ap (λ (b : Bool). entry_of b n (leader_of before (term_of v))) h)
-  | inr h ↦ (led.0, leads v ∙ (ap (λ (b : Bool). entry_of b n (leader_of before (term_of v))) h ∙ led.1))
+pub represents_kept : (before after : List (Variable × Variable)) (R : List Term) (n : Term) → Represents before after R n → Keeps before after
+represents_kept before after R n represents v represented = elim (true_or_false (is_variable_of R (term_of v))) [
+  | inl h ↦ (n, represents v ∙ ap (λ (b : Bool). entry_of b n (representative_of before (term_of v))) h)
+  | inr h ↦ (represented.0, represents v ∙ (ap (λ (b : Bool). entry_of b n (representative_of before (term_of v))) h ∙ represented.1))
 ]
 
-pub leads_member : (before after : List (Variable × Variable)) (R : List Term) (n : Term) → Leads before after R n → (v : Variable) → IsIn (term_of v) R → IsLed after (term_of v)
-leads_member before after R n leads v i =
-    (n, leads v ∙ ap (λ (b : Bool). entry_of b n (leader_of before (term_of v))) (member_from R (term_of v) (itself v) i))
+pub represents_member : (before after : List (Variable × Variable)) (R : List Term) (n : Term) → Represents before after R n → (v : Variable) → IsIn (term_of v) R → IsRepresented after (term_of v)
+represents_member before after R n represents v i =
+    (n, represents v ∙ ap (λ (b : Bool). entry_of b n (representative_of before (term_of v))) (member_from R (term_of v) (itself v) i))
 
 -- ---- what links reach from one variable is joined
 
@@ -160,12 +161,12 @@ ends ls u v i =
     let found = map_at link_of ls (u, v) i in
     ((found.0).from, (found.0).to, ap (λ (p : Term × Term). p.0) found.2, ap (λ (p : Term × Term). p.1) found.2)
 
-pub lead_more : (ls : List Link) (before after : List (Variable × Variable)) (xs : List Variable) (s n : Term) → IsLeast (s ∷ []) (links_of ls) (terms_of xs) → IsSymmetric (links_of ls) → Lead (links_of ls) before → IsIn n (s ∷ terms_of xs) → Leads before after (terms_of xs) n → Lead (links_of ls) after
-lead_more ls before after xs s n least symmetric old among leads = record {
+pub represent_more : (ls : List Link) (before after : List (Variable × Variable)) (xs : List Variable) (s n : Term) → IsLeast (s ∷ []) (links_of ls) (terms_of xs) → IsSymmetric (links_of ls) → Represent (links_of ls) before → IsIn n (s ∷ terms_of xs) → Represents before after (terms_of xs) n → Represent (links_of ls) after
+represent_more ls before after xs s n least symmetric old among represents = record {
   same = λ u v i.
       let e = ends ls u v i in
       is_now e.0 u e.2
-      ∙ (ap (λ (b : Bool). entry_of b n (leader_of before u)) (tests u v i)
+      ∙ (ap (λ (b : Bool). entry_of b n (representative_of before u)) (tests u v i)
       ∙ (ap (λ (o : Option Term). entry_of (is_variable_of (terms_of xs) v) n o) (old.same u v i)
       ∙ sym (is_now e.1 v e.3)));
   joined = λ v r e. go v r e (true_or_false (is_variable_of (terms_of xs) (term_of v)));
@@ -177,9 +178,9 @@ lead_more ls before after xs s n least symmetric old among leads = record {
       | inr i ↦ i
     ]
 
-    is_now : (x : Variable) (u : Term) → u ≡ term_of x → leader_of after u ≡ entry_of (is_variable_of (terms_of xs) u) n (leader_of before u)
+    is_now : (x : Variable) (u : Term) → u ≡ term_of x → representative_of after u ≡ entry_of (is_variable_of (terms_of xs) u) n (representative_of before u)
     is_now x u e =
-        subst (λ w. leader_of after w ≡ entry_of (is_variable_of (terms_of xs) w) n (leader_of before w)) (sym e) (leads x)
+        subst (λ w. representative_of after w ≡ entry_of (is_variable_of (terms_of xs) w) n (representative_of before w)) (sym e) (represents x)
 
     tests : (u v : Term) → IsIn (u, v) (links_of ls) → is_variable_of (terms_of xs) u ≡ is_variable_of (terms_of xs) v
     tests u v i =
@@ -188,41 +189,41 @@ lead_more ls before after xs s n least symmetric old among leads = record {
         (λ h. member_from (terms_of xs) v (subst (λ w. same_variable w w ≡ true) (sym e.3) (itself e.1)) (least.spread.goes u v i (member_at (terms_of xs) u h)))
         (λ h. member_from (terms_of xs) u (subst (λ w. same_variable w w ≡ true) (sym e.2) (itself e.0)) (least.spread.goes v u (symmetric u v i) (member_at (terms_of xs) v h)))
 
-    go : (v : Variable) (r : Term) → leader_of after (term_of v) ≡ Some r → (is_variable_of (terms_of xs) (term_of v) ≡ true) ⊎ (is_variable_of (terms_of xs) (term_of v) ≡ false) → AreJoined (links_of ls) (term_of v) r
+    go : (v : Variable) (r : Term) → representative_of after (term_of v) ≡ Some r → (is_variable_of (terms_of xs) (term_of v) ≡ true) ⊎ (is_variable_of (terms_of xs) (term_of v) ≡ false) → AreJoined (links_of ls) (term_of v) r
     go v r e (inl h) =
-        let same : Some n ≡ Some r = sym (ap (λ (b : Bool). entry_of b n (leader_of before (term_of v))) h) ∙ (sym (leads v) ∙ e) in
+        let same : Some n ≡ Some r = sym (ap (λ (b : Bool). entry_of b n (representative_of before (term_of v))) h) ∙ (sym (represents v) ∙ e) in
         subst (λ w. AreJoined (links_of ls) (term_of v) w) (ap (some_or n) same)
         (reach_joined (links_of ls) s (terms_of xs) least (variable_self xs) symmetric (term_of v) n (member_at (terms_of xs) (term_of v) h) (within))
     go v r e (inr h) =
-        old.joined v r (sym (ap (λ (b : Bool). entry_of b n (leader_of before (term_of v))) h) ∙ (sym (leads v) ∙ e))
+        old.joined v r (sym (ap (λ (b : Bool). entry_of b n (representative_of before (term_of v))) h) ∙ (sym (represents v) ∙ e))
 
-pub lead_start : (xs : List Variable) (v : Variable) (links : List (Term × Term)) → IsLeast (term_of v ∷ []) links (terms_of xs) → IsIn (term_of v) (terms_of xs)
-lead_start xs v links least = least.spread.has (term_of v) (inl refl)
+pub represent_start : (xs : List Variable) (v : Variable) (links : List (Term × Term)) → IsLeast (term_of v ∷ []) links (terms_of xs) → IsIn (term_of v) (terms_of xs)
+represent_start xs v links least = least.spread.has (term_of v) (inl refl)
 
 -- ---- a loop over links
 
-pub lead_none : (links : List (Term × Term)) → LeadSome links [] []
-lead_none links = record {
-  lead = record { same = λ u v i. refl; joined = λ v r e. clash (ap has_term e) };
-  led = λ u v i. absurd i;
+pub represent_none : (links : List (Term × Term)) → RepresentSome links [] []
+represent_none links = record {
+  represent = record { same = λ u v i. refl; joined = λ v r e. clash (ap has_term e) };
+  represented = λ u v i. absurd i;
 }
 
-pub lead_step : (ls : List Link) (i : ℕ) (d : Link) → i < length ls → (mid after : List (Variable × Variable)) → LeadSome (links_of ls) (links_of (take i ls)) mid → Lead (links_of ls) after → IsLed after (term_of (get_or ls i d).from) → Keeps mid after → LeadSome (links_of ls) (links_of (take (i + 1) ls)) after
-lead_step ls i d h mid after old lead start kept = record {
-  lead = lead;
-  led = λ u v j. elim (append_at (links_of (take i ls)) (link_of (get_or ls i d) ∷ []) (u, v) (subst (λ (ks : List (Term × Term)). IsIn (u, v) ks) (map_more link_of ls i d h) j)) [
+pub represent_step : (ls : List Link) (i : ℕ) (d : Link) → i < length ls → (mid after : List (Variable × Variable)) → RepresentSome (links_of ls) (links_of (take i ls)) mid → Represent (links_of ls) after → IsRepresented after (term_of (get_or ls i d).from) → Keeps mid after → RepresentSome (links_of ls) (links_of (take (i + 1) ls)) after
+represent_step ls i d h mid after old represent start kept = record {
+  represent = represent;
+  represented = λ u v j. elim (append_at (links_of (take i ls)) (link_of (get_or ls i d) ∷ []) (u, v) (subst (λ (ks : List (Term × Term)). IsIn (u, v) ks) (map_more link_of ls i d h) j)) [
     | inl k ↦ before u v k
     | inr k ↦ elim k [
-      | inl e ↦ subst (λ w. IsLed after w) (sym (ap (λ (p : Term × Term). p.0) e)) start
+      | inl e ↦ subst (λ w. IsRepresented after w) (sym (ap (λ (p : Term × Term). p.0) e)) start
       | inr never ↦ absurd never
     ]
   ];
 }
   where
-    before : (u v : Term) → IsIn (u, v) (links_of (take i ls)) → IsLed after u
+    before : (u v : Term) → IsIn (u, v) (links_of (take i ls)) → IsRepresented after u
     before u v k =
         let e = ends (take i ls) u v k in
-        subst (λ w. IsLed after w) (sym e.2) (kept e.0 (subst (λ w. IsLed mid w) e.2 (old.led u v k)))
+        subst (λ w. IsRepresented after w) (sym e.2) (kept e.0 (subst (λ w. IsRepresented mid w) e.2 (old.represented u v k)))
 
 -- ---- the shortest variable
 

@@ -1,7 +1,7 @@
 use Rattle.std.proofs.Common.{refl, inl, arith}
 use Rattle.asp_check.specs.Variables.{term_of}
-use Rattle.asp_check.proofs.Leading.{best_step}
-use Rattle.asp_check.proofs.leaders.shortest.Goals as goal
+use Rattle.asp_check.proofs.Representing.{best_step}
+use Rattle.asp_check.proofs.representatives.shortest.Goals as goal
 
 pub loop-variable-init : goal.loop-variable-init
 loop-variable-init c = inl refl

@@ -2,10 +2,10 @@ use Rattle.std.proofs.Common.{◌≡◌, ◌++◌, take}
 use Rattle.std.specs.List.{flat_map}
 use Rattle.asp_check.specs.Variables.{terms_of}
 use Rattle.asp_check.specs.Bindings.{links_of}
-use Rattle.asp_check.specs.Leaders.{leader_links}
-use Rattle.asp_check.proofs.leaders.add_leaders.Given as goal
+use Rattle.asp_check.specs.Representatives.{representative_links}
+use Rattle.asp_check.proofs.representatives.add_representatives.Given as goal
 
 abbrev pub invariant-loop-variable : goal.invariant-loop-variable
 invariant-loop-variable l =
     links_of l.links.items
-    ≡ links_of l.fn.links.items ++ flat_map (leader_links l.leaders.entries) (terms_of (take l.variable-index l.variables))
+    ≡ links_of l.fn.links.items ++ flat_map (representative_links l.representatives.entries) (terms_of (take l.variable-index l.variables))
