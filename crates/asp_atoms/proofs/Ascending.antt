@@ -7,7 +7,7 @@ use Rattle.std.specs.declared.cmp.Ordering.TheVariants.{Less, Equal, Greater}
 use Rattle.std.proofs.lemmas.Cmp.{tied_itself}
 use Rattle.asp_defs.specs.Lists.{IsIn}
 use Rattle.asp_defs.specs.Constants.{with_member, distinct}
-use Rattle.asp_check.proofs.Members.{flat_at}
+use Rattle.asp_walk.proofs.Lists.{flat_at}
 use Rattle.asp_atoms.specs.Ascending.{AllAbove, Ascends}
 use Rattle.asp_atoms.proofs.Orders.{IsLawful}
 

@@ -11,7 +11,7 @@ use Rattle.asp_defs.specs.Lists.{IsIn}
 use Rattle.asp_defs.specs.Constants.{const_cmp}
 use Rattle.asp_defs.specs.Bases.{Predicate, predicate_cmp, predicate_atoms, atom_number}
 use Rattle.asp_defs.proofs.Lists.{filter_at, filter_from, map_at, map_from}
-use Rattle.asp_check.proofs.Steps.{get_is_in}
+use Rattle.asp_walk.proofs.Lists.{get_is_in}
 use Rattle.asp_atoms.specs.declared.vocabularies.NumberedPredicate.{NumberedPredicate}
 use Rattle.asp_atoms.specs.Ascending.{AllAbove, Ascends, place_in}
 use Rattle.asp_atoms.specs.Vocabularies.{const_rank, unnumbered, numbered_from}

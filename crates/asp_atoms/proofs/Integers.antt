@@ -12,7 +12,7 @@ use Rattle.std.proofs.lemmas.Int.{ints, clamps, by_lt_z}
 use Rattle.asp_defs.specs.Lists.{IsIn}
 use Rattle.asp_defs.specs.Constants.{integers_from, interval_length, interval, distinct}
 use Rattle.asp_defs.proofs.Lists.{append_at, append_left, append_right}
-use Rattle.asp_check.proofs.Members.{flat_at, flat_from}
+use Rattle.asp_walk.proofs.Lists.{flat_at, flat_from}
 use Rattle.asp_atoms.specs.declared.intervals.Interval.{Interval}
 use Rattle.asp_atoms.specs.Universes.{between, integers, integers_of}
 use Rattle.asp_atoms.specs.Gaps.{apart_at, free_behind, apart_from, first_low}

@@ -25,8 +25,7 @@ use Rattle.asp_atoms.specs.declared.signatures.Signature.{Signature}
 use Rattle.asp_atoms.specs.declared.vocabularies.NumberedPredicate.{NumberedPredicate}
 use Rattle.asp_atoms.specs.Signatures.{predicate_of, predicates_of}
 use Rattle.asp_defs.specs.Bases.{Predicate}
-use Rattle.asp_check.proofs.Members.{flat_at}
-use Rattle.asp_check.proofs.Steps.{get_is_in}
+use Rattle.asp_walk.proofs.Lists.{flat_at, get_is_in}
 use Rattle.asp_atoms.proofs.Positions.{Finds}
 use Rattle.asp_atoms.proofs.Integers.{piece, integers_more, length_interval, lt_false, lt_true}
 use Rattle.asp_atoms.specs.Counts.{shown}

@@ -11,7 +11,7 @@ use Rattle.asp_defs.specs.Lists.{IsIn}
 use Rattle.asp_defs.specs.Constants.{const_cmp}
 use Rattle.asp_defs.specs.Bases.{Predicate, predicate_cmp, predicate_atoms, atom_number}
 use Rattle.asp_defs.proofs.Lists.{map_at}
-use Rattle.asp_check.proofs.Members.{flat_at}
+use Rattle.asp_walk.proofs.Lists.{flat_at}
 use Rattle.asp_atoms.specs.declared.vocabularies.NumberedPredicate.{NumberedPredicate}
 use Rattle.asp_atoms.specs.Ascending.{Ascends}
 use Rattle.asp_atoms.specs.Tuples.{in_base, shifted, numbers_of}

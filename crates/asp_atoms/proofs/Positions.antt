@@ -11,7 +11,7 @@ use Rattle.std.proofs.lemmas.List.{get_or-map, length-map, map-id}
 use Rattle.std.proofs.lemmas.List.Sums.{position_or_len_is}
 use Rattle.std.proofs.lemmas.List.Sorted.{searchable_from_sorted}
 use Rattle.asp_defs.specs.Lists.{IsIn}
-use Rattle.asp_check.proofs.Steps.{get_is_in}
+use Rattle.asp_walk.proofs.Lists.{get_is_in}
 use Rattle.asp_atoms.specs.Ascending.{Ascends, place_in}
 use Rattle.asp_atoms.proofs.Orders.{IsLawful}
 use Rattle.asp_atoms.proofs.Ascending.{above_at, turned, turned_back}

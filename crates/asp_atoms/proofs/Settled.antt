@@ -13,7 +13,7 @@ use Rattle.std.proofs.lemmas.List.Sorted.{Contains-permutation, IsPermutation-sy
 use Rattle.asp_defs.specs.Lists.{IsIn}
 use Rattle.asp_defs.specs.Constants.{distinct}
 use Rattle.asp_defs.proofs.Lists.{map_at, map_from}
-use Rattle.asp_check.proofs.Steps.{get_is_in}
+use Rattle.asp_walk.proofs.Lists.{get_is_in}
 use Rattle.asp_atoms.specs.Ascending.{AllAbove, Ascends}
 use Rattle.asp_atoms.proofs.Orders.{IsLawful}
 use Rattle.asp_atoms.proofs.Ascending.{distinct_is}

@@ -15,7 +15,7 @@ use Rattle.asp_defs.specs.Lists.{IsIn}
 use Rattle.asp_defs.specs.Constants.{const_cmp, atom_cmp}
 use Rattle.asp_defs.specs.Bases.{Predicate, predicate_cmp, product, predicate_atoms}
 use Rattle.asp_defs.proofs.Lists.{map_at, map_from}
-use Rattle.asp_check.proofs.Members.{flat_at, flat_from}
+use Rattle.asp_walk.proofs.Lists.{flat_at, flat_from}
 use Rattle.asp_atoms.specs.Ascending.{Ascends}
 use Rattle.asp_atoms.proofs.Orders.{bytes_lawful, nat_lawful, const_lawful, lists_lawful, atom_lawful}
 use Rattle.asp_atoms.proofs.Ascending.{ascends_flat_map, ascends_map}

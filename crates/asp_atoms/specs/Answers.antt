@@ -25,7 +25,7 @@ abbrev pub IsPast : ℕ → ℕ → SizeFault → Type 0
 IsPast size total (fault.TooLarge which count) = first_past size total ≡ Some (which, count)
 IsPast size total fault.NoMemory = ⊥
 
--- a fault is the refusal of a program: the limit that it passes, or want of memory
+-- a fault is the refusal of a program: the limit that it passes, or out of memory
 abbrev pub IsBaseRefusal : Program → SizeFault → Type 0
 IsBaseRefusal p (fault.TooLarge which count) = base_too_large p ≡ Some (which, count)
 IsBaseRefusal p fault.NoMemory = Unit {0}

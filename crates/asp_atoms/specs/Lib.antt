@@ -1,5 +1,5 @@
 pub mod Ascending
-pub mod Keys
+pub mod ConstRefs
 pub mod Counts
 pub mod Universes
 pub mod Gaps

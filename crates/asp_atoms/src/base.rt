@@ -7,10 +7,10 @@ ghost use Rattle.asp_atoms.specs.Answers.{IsFound, IsBaseRefusal, IsSearchable, 
 use crate::build::vocabulary;
 use crate::members::members;
 use crate::signatures::signatures;
+use crate::terms::level_rules;
 use crate::tuples::atoms;
 use crate::vocabularies::Vocabulary;
-use crate::written::level_rules;
-use asp_check::Checked;
+use asp_checked::Checked;
 use asp_defs::{Bases, NoMemory, SizeFault};
 use std::alloc::Global;
 

@@ -16,7 +16,7 @@ use crate::constants::{Constants, listed, ranked};
 use crate::gathered::gather;
 use crate::signatures::Signature;
 use crate::vocabularies::{NumberedPredicate, Vocabulary};
-use asp_check::Checked;
+use asp_checked::Checked;
 use asp_defs::{List, Name, NoMemory, SizeFault};
 use std::alloc::Global;
 

@@ -4,7 +4,7 @@ ghost use Rattle.std.specs.Ordering.{nat_cmp, ordering_then};
 ghost use Rattle.std.specs.Cmp.Lexicographic.{slice_cmp};
 ghost use Rattle.asp_defs.specs.Constants.{const_cmp, atom_cmp};
 
-use crate::keys::{compare_keys, key_of};
+use crate::const_refs::{compare_const_refs, const_ref};
 use asp_defs::{Const, GroundAtom};
 use std::cmp::Ordering;
 
@@ -12,7 +12,7 @@ use std::cmp::Ordering;
 fn compare(left: &Const, right: &Const) -> Ordering
     ensures { result ≡ const_cmp left.now right.now }
 {
-    compare_keys(key_of(left), key_of(right))
+    compare_const_refs(const_ref(left), const_ref(right))
 }
 
 /// Compares lists of constants from the left.

@@ -14,7 +14,7 @@ ghost use Rattle.asp_atoms.specs.Vocabularies.{const_rank};
 use crate::counts::sum;
 use crate::intervals::{Interval, add_intervals, count_integers, intervals_with};
 use crate::search::rank;
-use crate::written::terms;
+use crate::terms::terms;
 use asp_defs::{Const, List, Name, NoMemory, Rule, Term};
 use std::alloc::Global;
 

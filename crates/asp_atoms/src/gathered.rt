@@ -11,8 +11,8 @@ ghost use Rattle.asp_atoms.specs.Gathered.{IsGathered};
 use crate::constants::{Constants, count, universes};
 use crate::counts::{power, sum};
 use crate::signatures::{Signature, signatures};
-use crate::written::level_rules;
-use asp_check::Checked;
+use crate::terms::level_rules;
+use asp_checked::Checked;
 use asp_defs::{SizeFault, Which};
 use std::alloc::Global;
 

@@ -44,7 +44,8 @@ fn add_term(out: &mut Vec<Interval>, term: &Term) -> Result<(), NoMemory>
     Ok(())
 }
 
-/// Adds what an interval has from a first free integer on, and answers the first free integer behind it.
+/// Adds an interval without the integers below `free`, if it has others. The answer is the integer behind its high end,
+/// or `free` where that is greater.
 fn add_apart(out: &mut Vec<Interval>, free: i64, interval: Interval) -> Result<i64, NoMemory>
     ensures added { OnOk result (out.new.items ≡ out.old.items ++ apart_at free interval) }
     ensures free { IfOk result (λ next. next ≡ free_behind free interval) }
@@ -60,7 +61,7 @@ fn add_apart(out: &mut Vec<Interval>, free: i64, interval: Interval) -> Result<i
     Ok(free.max(high + 1))
 }
 
-/// Intervals without what earlier ones have, where their low ends ascend.
+/// Intervals whose low ends ascend, each without the integers of those before it.
 fn apart(alloc: Global, intervals: &[Interval]) -> Result<Vec<Interval>, NoMemory>
     ensures { IfOk result (λ out. out.items ≡ apart_from (first_low intervals.now) intervals.now) }
 {

@@ -46,7 +46,7 @@ fn add_shifted(out: &mut Vec<u32>, distance: u32, numbers: &[u32]) -> Result<(),
     Ok(())
 }
 
-/// Numbers behind each multiple of a weight.
+/// For each rank in turn the numbers, each greater by the rank times the weight.
 fn shifted(alloc: Global, weight: u32, numbers: &[u32], ranks: &[u32]) -> Result<Vec<u32>, NoMemory>
     requires multiples { (rank : ℕ) → IsIn rank ranks.now → rank * weight < 2 ^ 32 }
     requires sums { (rank n : ℕ) → IsIn rank ranks.now → IsIn n numbers.now → rank * weight + n < 2 ^ 32 }
@@ -59,7 +59,8 @@ fn shifted(alloc: Global, weight: u32, numbers: &[u32], ranks: &[u32]) -> Result
     Ok(out)
 }
 
-/// The numbers of all tuples of constants of these ranks, behind a first number.
+/// The numbers of all tuples of constants of these ranks, where the first of all atoms of the predicate has the number
+/// `first`.
 fn numbers(
     alloc: Global,
     first: u32,

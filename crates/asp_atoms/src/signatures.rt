@@ -4,11 +4,12 @@ ghost use Rattle.std.specs.List.{flat_map};
 ghost use Rattle.std.specs.Ordering.{is_eq};
 ghost use Rattle.asp_defs.specs.Lists.{numbers_from};
 ghost use Rattle.asp_defs.specs.Constants.{distinct};
-ghost use Rattle.asp_defs.specs.Bases.{predicate_cmp, atom_predicate, rule_predicates};
+ghost use Rattle.asp_defs.specs.Bases.{predicate_cmp, atom_predicate, rule_predicates, predicates, last_level};
 ghost use Rattle.asp_atoms.specs.Ascending.{Ascends};
 ghost use Rattle.asp_atoms.specs.Signatures.{predicate_of, predicates_of, predicates_to};
 
-use asp_defs::{Atom, NoMemory, Rule};
+use crate::terms::level_rules;
+use asp_defs::{Atom, NoMemory, Program, Rule};
 use asp_walk::Atoms;
 use std::alloc::Global;
 
@@ -82,6 +83,19 @@ pub fn signatures<'a>(
         signatures.push(next)?;
     }
     Ok(signatures)
+}
+
+/// The predicates of the levels of a program, ascending: of none of them, of the first, and so on to those of all and the
+/// constraint part.
+pub fn program_signatures(
+    alloc: Global,
+    program: &Program,
+) -> Result<Vec<Vec<Signature<'_>>>, NoMemory>
+    ensures { IfOk result (λ out. map (λ s. predicates_of s.items) out.items
+        ≡ map (predicates program.now) (numbers_from 0 (last_level program.now + 1))) }
+{
+    let levels = level_rules(alloc, program)?;
+    signatures(alloc, levels.as_slice())
 }
 
 /// Whether a predicate is one of some that ascend.

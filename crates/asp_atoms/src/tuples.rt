@@ -13,10 +13,10 @@ fn prepended(alloc: Global, first: &Const, rest: &[Const]) -> Result<List<Const>
     ensures { IfOk result (λ tuple. tuple ≡ first.now ∷ rest.now) }
 {
     let mut tuple = Vec::new(alloc);
-    let copy = first.copy(alloc)?;
+    let copy = first.copy()?;
     tuple.push(copy)?;
     for constant in rest {
-        let copy = constant.copy(alloc)?;
+        let copy = constant.copy()?;
         tuple.push(copy)?;
     }
     Ok(List::from_vec(tuple))
@@ -75,7 +75,7 @@ fn add_atoms(
     ensures { OnOk result (atoms.new.items ≡ atoms.old.items ++ predicate_atoms constants.now (unnumbered predicate.now)) }
 {
     for args in tuples(alloc, constants, predicate.arity)? {
-        let name = predicate.name.copy(alloc)?;
+        let name = predicate.name.copy()?;
         atoms.push(GroundAtom { name, args })?;
     }
     Ok(())

@@ -14,7 +14,7 @@ use Rattle.asp_defs.specs.Constants.{atom_cmp, universe}
 use Rattle.asp_defs.specs.Bases.{predicates, predicate_atoms, base_atoms, atom_number, last_level}
 use Rattle.asp_defs.specs.Games.{ascends, within, nested}
 use Rattle.asp_defs.proofs.Lists.{all_from, any_from, and_true, map_at, map_from}
-use Rattle.asp_check.proofs.Members.{flat_at, flat_from}
+use Rattle.asp_walk.proofs.Lists.{flat_at, flat_from}
 use Rattle.asp_atoms.specs.Ascending.{Ascends}
 use Rattle.asp_atoms.proofs.Orders.{atom_lawful}
 use Rattle.asp_atoms.proofs.Ascending.{never_back}

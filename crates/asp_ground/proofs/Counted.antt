@@ -1,6 +1,6 @@
 -- The instances that are counted from the front of a program are all that it has.
 use Rattle.std.proofs.Common.{ℕ, suc, ◌≡◌, ◌<◌, ◌≤◌, ◌+◌, ◌*◌, ◌^◌, refl, sym, ◌∙◌, ap, subst, inl, inr, Bool, ◌&&◌, List, [], ◌∷◌, ◌++◌, append-nil, append_assoc, zero-add, map, take, length, get_or, arith}
-use Rattle.std.specs.Prelude.{if◌then◌else◌, IsTrue, None, ◌==◌}
+use Rattle.std.specs.Prelude.{ℤ, Option, if◌then◌else◌, IsTrue, None, ◌==◌}
 use Rattle.std.specs.List.{flat_map, fold, sum_by, enumerate_from}
 use Rattle.std.proofs.lemmas.Bool.{ne_eqb, lt-ltb}
 use Rattle.std.proofs.Math.Nat.{pow-zero}
@@ -12,6 +12,7 @@ use Rattle.asp_defs.specs.declared.syntax.Term.{Term}
 use Rattle.asp_defs.specs.declared.syntax.Term.TheVariants.{Int, Sym, Var, Anon, Range}
 use Rattle.asp_defs.specs.declared.syntax.Atom.{Atom}
 use Rattle.asp_defs.specs.declared.syntax.Literal.{Literal}
+use Rattle.asp_defs.specs.declared.syntax.Element.{Element}
 use Rattle.asp_defs.specs.declared.syntax.Head.{Head}
 use Rattle.asp_defs.specs.declared.syntax.Head.TheVariants.{Disj, Choice}
 use Rattle.asp_defs.specs.declared.syntax.Rule.{Rule}
@@ -19,13 +20,13 @@ use Rattle.asp_defs.specs.declared.syntax.Program.{Program}
 use Rattle.asp_defs.specs.Lists.{IsIn}
 use Rattle.asp_defs.specs.Constants.{const_cmp, with_member, distinct, interval, interval_length, rule_constants, level_rules, rules_to, universe}
 use Rattle.asp_defs.specs.Bases.{product, last_level}
-use Rattle.asp_defs.specs.Instances.{Schema, term_variables, first_occurrences, term_choices, spread, disjunctive_schema, element_schema, head_schemas, instance_count}
+use Rattle.asp_defs.specs.Instances.{Schema, term_variables, first_occurrences, term_choices, spread, disjunctive_schema, element_schema, head_schemas, has_bound, instance_count}
 use Rattle.asp_defs.specs.Safety.{all_rules}
 use Rattle.asp_defs.specs.Limits.{variable_count}
 use Rattle.asp_defs.specs.Sizes.{level_instances, instance_total}
 use Rattle.asp_defs.proofs.Lists.{append_at, append_left, append_right, map_at}
 use Rattle.asp_check.specs.Condition.{IsCheckable}
-use Rattle.asp_check.proofs.Members.{flat_at, flat_from}
+use Rattle.asp_walk.proofs.Lists.{flat_at, flat_from}
 use Rattle.asp_defs.specs.Checks.{is_checked}
 use Rattle.asp_atoms.specs.declared.vocabularies.Vocabulary.{Vocabulary}
 use Rattle.asp_atoms.specs.Vocabularies.{const_rank, vocabulary_of}
@@ -42,7 +43,7 @@ use Rattle.asp_ground.proofs.Gathered.{roomed}
 use Rattle.asp_ground.proofs.Members.{few_ascending}
 use Rattle.asp_ground.proofs.Products.{with_first, tuple_member}
 use Rattle.asp_ground.proofs.FactInstances.{KnownArgument, KnownConstant, KnownFact, choice_known}
-use Rattle.asp_ground.proofs.RuleInstances.{KnownRule, disjunctive_found, element_found, known_fact}
+use Rattle.asp_ground.proofs.RuleInstances.{KnownRule, disjunctive_found, element_found, body_found, known_fact}
 use Rattle.asp_ground.proofs.Levels.{constant_known, rule_known, universe_at, placed}
 
 -- ---- constants from the front
@@ -186,18 +187,31 @@ one_counted : (size : ℕ) (heads : List Atom) (body : List Literal) → variabl
 one_counted size heads body few =
     ap (λ (vs : List Term). size ^ length vs) (disjunctive_found heads body few) ∙ sym (zero-add (size_of size (disjunctive_schema heads body)))
 
-head_counted : (v : Vocabulary) (size : ℕ) (head : Head) (body : List Literal) → KnownRule v head body → head_count size head body ≡ sum_by (size_of size) (head_schemas head body)
-head_counted v size (Disj []) body known = one_counted size [] body known.few
-head_counted v size (Disj (a ∷ [])) [] known = sym (fact_counted v size a (known_fact v a known))
-head_counted v size (Disj (a ∷ [])) (l ∷ body) known =
+disjunction_counted : (v : Vocabulary) (size : ℕ) (heads : List Atom) (body : List Literal) → KnownRule v (Disj heads) body → head_count size (Disj heads) body ≡ sum_by (size_of size) (head_schemas (Disj heads) body)
+disjunction_counted v size [] body known = one_counted size [] body known.few
+disjunction_counted v size (a ∷ []) [] known = sym (fact_counted v size a (known_fact v a known))
+disjunction_counted v size (a ∷ []) (l ∷ body) known =
     ap (either_count size (a ∷ []) (l ∷ body) a) (ne_eqb (suc (length body)) 0 (suc_is_not (length body)))
     ∙ one_counted size (a ∷ []) (l ∷ body) known.few
-head_counted v size (Disj (a ∷ b ∷ more)) body known =
+disjunction_counted v size (a ∷ b ∷ more) body known =
     ap (λ one. either_count size (a ∷ b ∷ more) body a (one && (length body == 0))) (ne_eqb (suc (suc (length more))) 1 (more_is_not (length more)))
     ∙ one_counted size (a ∷ b ∷ more) body known.few
-head_counted v size (Choice elements) body known =
-    sum_same (λ e. size ^ length (element_variables body e)) (λ e. size_of size (element_schema body e)) elements (λ e i. ap (λ (vs : List Term). size ^ length vs) (element_found elements body e i known.few))
-    ∙ sym (sum_map (size_of size) (element_schema body) elements)
+
+none_more : (n : ℕ) → n ≡ n + 0
+none_more n = omega arith
+
+-- how many ground bounds a choice has whose body has these variables
+abbrev bounds_by : ℕ → Option ℤ → List Element → Option ℤ → List Term → ℕ
+bounds_by size low elements high vs = if has_bound (Choice low elements high) then size ^ length vs else 0
+
+head_counted : (v : Vocabulary) (size : ℕ) (head : Head) (body : List Literal) → KnownRule v head body → head_count size head body ≡ instance_count size (make_rule head body)
+head_counted v size (Disj heads) body known =
+    disjunction_counted v size heads body known ∙ none_more (sum_by (size_of size) (head_schemas (Disj heads) body))
+head_counted v size (Choice low elements high) body known =
+    ap (λ n. n + bounds_by size low elements high (disjunctive_variables [] body))
+    (sum_same (λ e. size ^ length (element_variables body e)) (λ e. size_of size (element_schema body e)) elements (λ e i. ap (λ (vs : List Term). size ^ length vs) (element_found low elements high body e i known.few))
+    ∙ sym (sum_map (size_of size) (element_schema body) elements))
+    ∙ ap (λ vs. sum_by (size_of size) (map (element_schema body) elements) + bounds_by size low elements high vs) (body_found low elements high body known.few)
 
 -- ---- levels
 

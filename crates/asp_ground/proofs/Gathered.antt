@@ -16,10 +16,10 @@ use Rattle.asp_defs.specs.declared.ground.Const.TheVariants as const
 use Rattle.asp_defs.specs.Lists.{IsIn}
 use Rattle.asp_defs.specs.Constants.{const_cmp, with_member, integers_from}
 use Rattle.asp_defs.proofs.Lists.{true_or_false}
-use Rattle.asp_atoms.specs.declared.keys.Key.{Key}
-use Rattle.asp_atoms.specs.declared.keys.Key.TheVariants.{Int}
+use Rattle.asp_atoms.specs.declared.const_refs.ConstRef.{ConstRef}
+use Rattle.asp_atoms.specs.declared.const_refs.ConstRef.TheVariants.{Int}
 use Rattle.asp_atoms.specs.Ascending.{Ascends}
-use Rattle.asp_atoms.specs.Keys.{const_of}
+use Rattle.asp_atoms.specs.ConstRefs.{const_of}
 use Rattle.asp_atoms.proofs.Orders.{const_lawful}
 use Rattle.asp_atoms.proofs.Ascending.{turned, turned_back, ascends_with}
 use Rattle.asp_atoms.proofs.Positions.{ascends_at, sorted, stands}
@@ -30,31 +30,31 @@ use Rattle.asp_ground.specs.Counts.{with_constant, Gathers}
 
 -- ---- a search that reads copies
 
-abbrev some_key : Key
-some_key = Int (pos 0)
+abbrev some_ref : ConstRef
+some_ref = Int (pos 0)
 
 -- what a search answers is the place of a constant
-pub placed : (xs : List Key) → Ascends const_cmp (map const_of xs) → (c : Const) (r : Result ℕ ℕ) → IsSearchInRange r (length xs) → IsBinarySearchResult (λ y. const_cmp (const_of y) c) xs r → IsPlace (map const_of xs) c r
+pub placed : (xs : List ConstRef) → Ascends const_cmp (map const_of xs) → (c : Const) (r : Result ℕ ℕ) → IsSearchInRange r (length xs) → IsBinarySearchResult (λ y. const_cmp (const_of y) c) xs r → IsPlace (map const_of xs) c r
 placed xs up c (Ok i) range found =
     let long = length-map xs const_of in record {
       inside = omega (arith, range, long);
-      is = λ d. get_or-map const_of xs i some_key d range ∙ const_lawful.exact (const_of (get_or xs i some_key)) c (found some_key);
+      is = λ d. get_or-map const_of xs i some_ref d range ∙ const_lawful.exact (const_of (get_or xs i some_ref)) c (found some_ref);
     }
 placed xs up c (Err i) range found =
     let long = length-map xs const_of in
     let parts = found (searchable_from_sorted const_lawful.total const_of xs c (sorted const_lawful const_of xs up)) in record {
       within = omega (arith, range, long);
       below = λ k d h.
-          subst (λ (x : Const). const_cmp c x ≡ Greater) (sym (get_or-map const_of xs k some_key d (omega (arith, h, range))))
-          (turned_back const_lawful (const_of (get_or xs k some_key)) c (parts.0 k some_key (omega arith) h));
+          subst (λ (x : Const). const_cmp c x ≡ Greater) (sym (get_or-map const_of xs k some_ref d (omega (arith, h, range))))
+          (turned_back const_lawful (const_of (get_or xs k some_ref)) c (parts.0 k some_ref (omega arith) h));
       above = λ k d h l.
           let inside : k < length xs = omega (arith, l, long) in
-          subst (λ (x : Const). const_cmp c x ≡ Less) (sym (get_or-map const_of xs k some_key d inside))
-          (turned const_lawful (const_of (get_or xs k some_key)) c (parts.1 k some_key h inside));
+          subst (λ (x : Const). const_cmp c x ≡ Less) (sym (get_or-map const_of xs k some_ref d inside))
+          (turned const_lawful (const_of (get_or xs k some_ref)) c (parts.1 k some_ref h inside));
     }
 
 -- a constant that is read at a place and compares as equal stands there
-pub read_at : (xs : List Key) (place : ℕ) (d : Key) (c : Const) (r : Ordering) → place < length xs → r ≡ const_cmp (const_of (get_or xs place d)) c → is_eq r ≡ true → IsAt (map const_of xs) c place
+pub read_at : (xs : List ConstRef) (place : ℕ) (d : ConstRef) (c : Const) (r : Ordering) → place < length xs → r ≡ const_cmp (const_of (get_or xs place d)) c → is_eq r ≡ true → IsAt (map const_of xs) c place
 read_at xs place d c r h e same =
     let long = length-map xs const_of in record {
       inside = omega (arith, h, long);
@@ -86,11 +86,11 @@ with_there c (y ∷ ys) (suc place) d h below e =
     ap (λ o. chosen o c y ys (with_member const_cmp c ys)) (below zero (omega arith))
     ∙ ap (λ zs. y ∷ zs) (with_there c ys place d (omega arith) (λ k l. below (suc k) (omega arith)) e)
 
-map_insert : (xs : List Key) (place : ℕ) (key : Key) → map const_of (take place xs ++ key ∷ drop place xs) ≡ take place (map const_of xs) ++ const_of key ∷ drop place (map const_of xs)
-map_insert [] zero key = refl
-map_insert [] (suc place) key = refl
-map_insert (x ∷ xs) zero key = refl
-map_insert (x ∷ xs) (suc place) key = ap (λ cs. const_of x ∷ cs) (map_insert xs place key)
+map_insert : (xs : List ConstRef) (place : ℕ) (constant : ConstRef) → map const_of (take place xs ++ constant ∷ drop place xs) ≡ take place (map const_of xs) ++ const_of constant ∷ drop place (map const_of xs)
+map_insert [] zero constant = refl
+map_insert [] (suc place) constant = refl
+map_insert (x ∷ xs) zero constant = refl
+map_insert (x ∷ xs) (suc place) constant = ap (λ cs. const_of x ∷ cs) (map_insert xs place constant)
 
 abbrev pub roomed : Bool → List Const → Const → List Const
 roomed room found c = if room then with_member const_cmp c found else found
@@ -101,15 +101,15 @@ with_constant_ascends found c up = elim (true_or_false (nat_lt (length found) 40
   | inr e ↦ subst (λ (b : Bool). Ascends const_cmp (roomed b found c)) (sym e) up
 ]
 
-pub inserted : (xs ys : List Key) (key : Key) (place : ℕ) → Ascends const_cmp (map const_of xs) → Gap (map const_of xs) (const_of key) place → length xs < 4097 → ys ≡ insert xs place key → Gathers (map const_of xs) (map const_of ys) (const_of key ∷ [])
-inserted xs ys key place up gap room is =
+pub inserted : (xs ys : List ConstRef) (constant : ConstRef) (place : ℕ) → Ascends const_cmp (map const_of xs) → Gap (map const_of xs) (const_of constant) place → length xs < 4097 → ys ≡ insert xs place constant → Gathers (map const_of xs) (map const_of ys) (const_of constant ∷ [])
+inserted xs ys constant place up gap room is =
     let long = length-map xs const_of in
-    let added : map const_of ys ≡ with_constant (map const_of xs) (const_of key) =
+    let added : map const_of ys ≡ with_constant (map const_of xs) (const_of constant) =
     ap (map const_of) is
-    ∙ (map_insert xs place key
-    ∙ (sym (with_gap (const_of key) (map const_of xs) place gap.within gap.below gap.above)
-    ∙ ap (λ b. roomed b (map const_of xs) (const_of key)) (sym (lt-ltb (length (map const_of xs)) 4097 (omega (arith, long, room)))))) in
-    record { added = added; ascending = subst (λ (cs : List Const). Ascends const_cmp cs) (sym added) (with_constant_ascends (map const_of xs) (const_of key) up) }
+    ∙ (map_insert xs place constant
+    ∙ (sym (with_gap (const_of constant) (map const_of xs) place gap.within gap.below gap.above)
+    ∙ ap (λ b. roomed b (map const_of xs) (const_of constant)) (sym (lt-ltb (length (map const_of xs)) 4097 (omega (arith, long, room)))))) in
+    record { added = added; ascending = subst (λ (cs : List Const). Ascends const_cmp cs) (sym added) (with_constant_ascends (map const_of xs) (const_of constant) up) }
 
 either_way : (xs : List Const) (c : Const) → with_member const_cmp c xs ≡ xs → with_constant xs c ≡ xs
 either_way xs c same = elim (true_or_false (nat_lt (length xs) 4097)) [

@@ -1,5 +1,5 @@
 -- The game of a checked program is that of its compiled rules.
-use Rattle.std.proofs.Common.{ℕ, suc, ◌≡◌, ◌<◌, ◌≤◌, ◌+◌, refl, sym, ◌∙◌, ap, subst, inl, inr, Bool, Option, Some, None, List, [], ◌∷◌, map, take, length, get_or, arith, zero-add, min}
+use Rattle.std.proofs.Common.{ℕ, suc, ◌≡◌, ◌⊎◌, ◌<◌, ◌≤◌, ◌+◌, refl, sym, ◌∙◌, ap, subst, inl, inr, Bool, Option, Some, None, List, [], ◌∷◌, ◌++◌, map, take, length, get_or, arith, zero-add, min}
 use Rattle.std.specs.Prelude.{if◌then◌else◌, IsTrue, is_none, is_some}
 use Rattle.std.specs.List.{flat_map, enumerate_from}
 use Rattle.std.specs.Option.{option_or}
@@ -17,16 +17,19 @@ use Rattle.asp_defs.specs.declared.syntax.Program.{Program}
 use Rattle.asp_defs.specs.Lists.{IsIn, numbers_from}
 use Rattle.asp_defs.specs.Constants.{rule_constants, level_rules, rules_to, universe}
 use Rattle.asp_defs.specs.Bases.{Predicate, predicate_cmp, rule_predicates, predicates, base_atoms, last_level}
+use Rattle.asp_defs.specs.declared.syntax.Head.TheVariants.{Disj}
 use Rattle.asp_defs.specs.Instances.{rule_instances}
-use Rattle.asp_defs.specs.Games.{level_ground, game_of}
+use Rattle.asp_defs.specs.BoundInstances.{rule_bounds}
+use Rattle.asp_defs.specs.Consistency.{consistency_constraint, consistency_constraints}
+use Rattle.asp_defs.specs.Games.{level_ground, level_bounds, game_of}
 use Rattle.asp_defs.specs.Safety.{all_rules, first_unsafe, first_unsafe_from, unsafe_in, shown_number, shown_variable}
 use Rattle.asp_defs.specs.Limits.{past_limit, most_shown, variable_count, most_arguments, most_literals, most_variables}
 use Rattle.asp_defs.specs.Sizes.{constant_total, atom_total, instance_total, game_too_large}
 use Rattle.asp_defs.specs.Checks.{safety_refusal, check_refusal, is_checked}
-use Rattle.asp_defs.proofs.Lists.{all_at, map_at, map_from}
+use Rattle.asp_defs.proofs.Lists.{all_at, append_at, map_at, map_from}
 use Rattle.asp_defs.proofs.TextRefutations.{clash}
 use Rattle.asp_check.specs.Condition.{IsCheckable, has_intervals_in_facts}
-use Rattle.asp_check.proofs.Members.{flat_at, flat_from}
+use Rattle.asp_walk.proofs.Lists.{flat_at, flat_from}
 use Rattle.asp_atoms.specs.Ascending.{Ascends}
 use Rattle.asp_atoms.specs.Vocabularies.{const_rank, vocabulary_of}
 use Rattle.asp_atoms.specs.Answers.{base_too_large, IsBaseRefusal}
@@ -34,7 +37,7 @@ use Rattle.asp_atoms.proofs.Orders.{const_lawful, predicate_lawful}
 use Rattle.asp_atoms.proofs.Ascending.{ascends_distinct, in_distinct, distinct_from}
 use Rattle.asp_atoms.proofs.Assembling.{number_reads}
 use Rattle.asp_atoms.proofs.Choosing.{unnumbered_all}
-use Rattle.asp_atoms.proofs.Counting.{levels_long, not_large, no_one, unmapped, within_limit, first_none, second_none, limit_kept, max_member}
+use Rattle.asp_atoms.proofs.Counting.{levels_long, not_large, no_one, unmapped, within_limit, first_none, second_none, limit_kept, max_member, short_predicates}
 use Rattle.asp_atoms.proofs.Gathering.{few_constants, few_atoms}
 use Rattle.asp_atoms.proofs.Levels.{get_number, length_numbers}
 use Rattle.asp_ground.specs.Ranks.{IsOrdered}
@@ -45,7 +48,10 @@ use Rattle.asp_atoms.proofs.Choosing.{flat_map_agrees}
 use Rattle.asp_atoms.proofs.Numbering.{map_agrees, map_map}
 use Rattle.asp_ground.proofs.Known.{Numbers}
 use Rattle.asp_ground.proofs.Numbers.{const_at, Stands, stands}
-use Rattle.asp_ground.proofs.RuleInstances.{KnownRule, Ranked, rule_is}
+use Rattle.asp_ground.specs.BoundTemplates.{compiled_bounds, level_bounds_by, compiled_level_bounds}
+use Rattle.asp_ground.proofs.RuleInstances.{KnownParts, KnownRule, Ranked, plain_is, rule_is}
+use Rattle.asp_ground.proofs.ConsistencyRules.{no_constant, constrains, body_single, Comes, comes, few_variables as few_variables_of}
+use Rattle.asp_ground.proofs.BoundInstances.{bounds_are}
 
 -- ---- the vocabulary ascends
 
@@ -242,16 +248,63 @@ placed k (rules ∷ levels) level (inr i) =
     let high = rest.high in
     record { low = omega (arith, low); high = omega (arith, high); member = inr rest.member }
 
-level_is : (p : Program) (level : ℕ × List Rule) → IsTrue (is_checked p) → IsCheckable p → base_too_large p ≡ None → IsIn level (enumerate_from 1 (level_rules p)) → level_instances (vocabulary_of p) level ≡ level_ground p level
+-- a predicate of a level is one of the vocabulary's
+pub level_predicate : (p : Program) (i : ℕ) (q : Predicate) → IsIn q (predicates p i) → IsIn q (predicates p (last_level p))
+level_predicate p i q h =
+    let found = flat_at rule_predicates (rules_to p i) q (in_distinct predicate_lawful (flat_map rule_predicates (rules_to p i)) q h) in
+    predicate_known p found.0 q (rule_to p i found.0 found.1) found.2
+
+constraint_known : (p : Program) (i : ℕ) (r : Rule) (c : Comes p i r) → KnownParts (vocabulary_of p) (Disj []) (consistency_constraint c.of).body
+constraint_known p i r c = record {
+  constants = λ x k. absurd (subst (λ (cs : List Const). IsIn x cs) (no_constant c.of) k);
+  predicates = λ q k.
+      subst (λ (qs : List Predicate). IsIn q qs) (sym (unnumbered_all (length (vocabulary_of p).constants) 0 (predicates p (last_level p))))
+      (level_predicate p i q (elim (constrains c.of q k) [
+        | inl e ↦ subst (λ s. IsIn s (predicates p i)) (sym e) c.here
+        | inr e ↦ subst (λ s. IsIn s (predicates p i)) (sym e) c.negation
+      ]));
+  single = (refl, body_single c.of);
+}
+
+-- a consistency constraint of a level has the instances of its template
+constraint_is : (p : Program) (i : ℕ) (r : Rule) → IsTrue (is_checked p) → base_too_large p ≡ None → i < last_level p + 1 → IsIn r (consistency_constraints p i) → rule_instances (base_atoms p (last_level p)) (universe p i) r ≡ compiled_instances (vocabulary_of p) (get_or (vocabulary_of p).universes i []) r
+constraint_is p i r checked e within j =
+    let c = comes p i r j in
+    let few = few_variables_of c.of in
+    let short = short_predicates p checked c.of (level_predicate p i c.of c.here) in
+    subst (λ s. rule_instances (base_atoms p (last_level p)) (universe p i) s ≡ compiled_instances (vocabulary_of p) (get_or (vocabulary_of p).universes i []) s) (sym c.is)
+    (plain_is (base_atoms p (last_level p)) (vocabulary_of p) (universe p i) (get_or (vocabulary_of p).universes i []) [] (consistency_constraint c.of).body
+    (numbers_of p e) (ranked_at p i within) (constraint_known p i r c) (omega (arith, few, short)))
+
+level_is : (p : Program) (level : ℕ × List Rule) → IsTrue (is_checked p) → IsCheckable p → base_too_large p ≡ None → IsIn level (enumerate_from 1 (level_rules p)) → level_instances (vocabulary_of p) p level ≡ level_ground p level
 level_is p level checked checkable e i =
     let place = placed 1 (level_rules p) level i in
     let count = levels_long p in
     let high = place.high in
     let within : level.0 < last_level p + 1 = omega (arith, count, high) in
-    flat_map_agrees (compiled_instances (vocabulary_of p) (get_or (vocabulary_of p).universes level.0 [])) (rule_instances (base_atoms p (last_level p)) (universe p level.0)) level.1
-    (λ r j. sym (rule_is (base_atoms p (last_level p)) (vocabulary_of p) (universe p level.0) (get_or (vocabulary_of p).universes level.0 []) r (numbers_of p e) (ranked_at p level.0 within)
+    flat_map_agrees (compiled_instances (vocabulary_of p) (get_or (vocabulary_of p).universes level.0 [])) (rule_instances (base_atoms p (last_level p)) (universe p level.0)) (level.1 ++ consistency_constraints p level.0)
+    (λ r j. sym (either within place.member r (append_at level.1 (consistency_constraints p level.0) r j)))
+  where
+    either : level.0 < last_level p + 1 → IsIn level.1 (level_rules p) → (r : Rule) → IsIn r level.1 ⊎ IsIn r (consistency_constraints p level.0) → rule_instances (base_atoms p (last_level p)) (universe p level.0) r ≡ compiled_instances (vocabulary_of p) (get_or (vocabulary_of p).universes level.0 []) r
+    either within member r (inl k) =
+        rule_is (base_atoms p (last_level p)) (vocabulary_of p) (universe p level.0) (get_or (vocabulary_of p).universes level.0 []) r (numbers_of p e) (ranked_at p level.0 within)
+        (rule_known p checked checkable r (flat_from (λ (rules : List Rule). rules) (level_rules p) level.1 r member k))
+    either within member r (inr k) = constraint_is p level.0 r checked e within k
+
+bounds_level_is : (p : Program) (level : ℕ × List Rule) → IsTrue (is_checked p) → IsCheckable p → base_too_large p ≡ None → IsIn level (enumerate_from 1 (level_rules p)) → level_bounds_by (vocabulary_of p) level ≡ level_bounds p level
+bounds_level_is p level checked checkable e i =
+    let place = placed 1 (level_rules p) level i in
+    let count = levels_long p in
+    let high = place.high in
+    let within : level.0 < last_level p + 1 = omega (arith, count, high) in
+    flat_map_agrees (compiled_bounds (vocabulary_of p) (get_or (vocabulary_of p).universes level.0 [])) (rule_bounds (base_atoms p (last_level p)) (universe p level.0)) level.1
+    (λ r j. sym (bounds_are (base_atoms p (last_level p)) (vocabulary_of p) (numbers_of p e) (universe p level.0) (get_or (vocabulary_of p).universes level.0 []) (ranked_at p level.0 within) r
     (rule_known p checked checkable r (flat_from (λ (rules : List Rule). rules) (level_rules p) level.1 r place.member j))))
+
+pub level_bounds_are : (p : Program) → IsTrue (is_checked p) → IsCheckable p → base_too_large p ≡ None → compiled_level_bounds (vocabulary_of p) p ≡ (game_of p).bounds
+level_bounds_are p checked checkable e =
+    map_agrees (level_bounds_by (vocabulary_of p)) (level_bounds p) (enumerate_from 1 (level_rules p)) (λ level i. bounds_level_is p level checked checkable e i)
 
 pub levels_are : (p : Program) → IsTrue (is_checked p) → IsCheckable p → base_too_large p ≡ None → compiled_levels (vocabulary_of p) p ≡ (game_of p).rules
 levels_are p checked checkable e =
-    map_agrees (level_instances (vocabulary_of p)) (level_ground p) (enumerate_from 1 (level_rules p)) (λ level i. level_is p level checked checkable e i)
+    map_agrees (level_instances (vocabulary_of p) p) (level_ground p) (enumerate_from 1 (level_rules p)) (λ level i. level_is p level checked checkable e i)

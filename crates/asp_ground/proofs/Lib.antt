@@ -14,8 +14,14 @@ pub mod Schemas
 pub mod FactInstances
 pub mod RuleInstances
 pub mod Levels
+pub mod Signed
 pub mod Counted
 pub mod BaseAtoms
+pub mod BoundAtoms
+pub mod BoundInstances
+pub mod Rooms
+pub mod ConsistencyRules
+pub mod Walking
 pub mod SchemaAtoms
 pub mod RuleSchemas
 pub mod LevelRules

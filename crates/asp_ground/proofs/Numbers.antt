@@ -18,7 +18,7 @@ use Rattle.asp_defs.specs.Constants.{const_cmp, atom_cmp}
 use Rattle.asp_defs.specs.Bases.{Predicate, predicate_cmp, atom_predicate, atom_number}
 use Rattle.asp_defs.specs.Instances.{same_variable, term_value, atom_instance, op_holds}
 use Rattle.asp_defs.proofs.Lists.{map_at}
-use Rattle.asp_check.proofs.Steps.{get_is_in}
+use Rattle.asp_walk.proofs.Lists.{get_is_in}
 use Rattle.asp_atoms.specs.declared.vocabularies.NumberedPredicate.{NumberedPredicate}
 use Rattle.asp_atoms.specs.declared.vocabularies.Vocabulary.{Vocabulary}
 use Rattle.asp_ground.specs.declared.template.Slot.{Slot}

@@ -8,7 +8,7 @@ use Rattle.asp_defs.specs.Bases.{product}
 use Rattle.asp_defs.proofs.Lists.{map_at}
 use Rattle.asp_atoms.proofs.Choosing.{flat_map_agrees}
 use Rattle.asp_atoms.proofs.Numbering.{map_map}
-use Rattle.asp_check.proofs.Members.{flat_at}
+use Rattle.asp_walk.proofs.Lists.{flat_at}
 
 abbrev pub with_first : {A : Type 0} → List (List A) → A → List (List A)
 with_first rest x = map (λ tuple. x ∷ tuple) rest

@@ -8,7 +8,7 @@ use Rattle.asp_defs.specs.declared.ground.Const.{Const}
 use Rattle.asp_defs.specs.declared.ground.Const.TheVariants as const
 use Rattle.asp_defs.specs.Lists.{IsIn}
 use Rattle.asp_defs.specs.Constants.{const_cmp, integers_from, interval_length}
-use Rattle.asp_check.proofs.Steps.{get_is_in}
+use Rattle.asp_walk.proofs.Lists.{get_is_in}
 use Rattle.asp_atoms.specs.Ascending.{Ascends}
 use Rattle.asp_atoms.proofs.Integers.{ends, swapped}
 use Rattle.asp_atoms.proofs.Positions.{ascends_at}

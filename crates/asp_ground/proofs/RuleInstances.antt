@@ -1,6 +1,6 @@
 -- The instances of a rule are those of its templates.
 use Rattle.std.proofs.Common.{ℕ, suc, ◌≡◌, ◌<◌, ◌≤◌, refl, sym, ◌∙◌, ap, subst, inl, inr, Bool, true, false, ◌&&◌, cond, Some, None, List, [], ◌∷◌, ◌++◌, append-nil, map, length, arith}
-use Rattle.std.specs.Prelude.{if◌then◌else◌, ◌==◌}
+use Rattle.std.specs.Prelude.{ℤ, Option, if◌then◌else◌, ◌==◌}
 use Rattle.std.specs.List.{flat_map, find, list_all}
 use Rattle.std.proofs.lemmas.Bool.{ne_eqb}
 use Rattle.asp_defs.specs.declared.ground.Const.{Const}
@@ -19,18 +19,20 @@ use Rattle.asp_defs.specs.declared.syntax.Rule.{Rule}
 use Rattle.asp_defs.specs.Lists.{IsIn}
 use Rattle.asp_defs.specs.Constants.{term_constants, atom_constants, literal_constants, element_constants, head_constants}
 use Rattle.asp_defs.specs.Bases.{Predicate, atom_predicate, literal_predicates, element_predicates, head_predicates}
-use Rattle.asp_defs.specs.Instances.{Schema, same_variable, term_variables, atom_variables, literal_variables, first_occurrences, disjunctive_schema, element_schema, head_schemas, rule_instances}
+use Rattle.asp_defs.specs.Instances.{Schema, same_variable, term_variables, atom_variables, literal_variables, first_occurrences, disjunctive_schema, element_schema, head_schemas, body_variables, rule_instances}
+use Rattle.asp_defs.specs.BoundInstances.{bound_variables}
 use Rattle.asp_defs.specs.Safety.{is_variable_of, element_variables, rule_variables, unbound, first_unsafe}
 use Rattle.asp_defs.specs.Limits.{variable_count}
 use Rattle.asp_defs.proofs.Lists.{both, all_at, append_at, append_left, append_right, map_from, or_left}
 use Rattle.asp_check.specs.Condition.{is_single, is_single_atom, is_single_literal, is_single_element, is_single_head, has_intervals_in_facts}
-use Rattle.asp_check.proofs.Members.{flat_at, flat_from}
+use Rattle.asp_walk.proofs.Lists.{flat_at, flat_from}
 use Rattle.asp_defs.proofs.SafetyLaws.{itself as same_self}
 use Rattle.asp_atoms.specs.declared.vocabularies.Vocabulary.{Vocabulary}
 use Rattle.asp_atoms.specs.Vocabularies.{unnumbered}
 use Rattle.asp_ground.proofs.Parts.{make_rule, disjunctive_written, element_written, all_instances, suc_is_not, more_is_not}
 use Rattle.asp_ground.specs.Variables as found
 use Rattle.asp_ground.specs.Variables.{disjunctive_variables, found_disjunctive, found_element}
+use Rattle.asp_ground.specs.BoundTemplates.{found_variables}
 use Rattle.asp_ground.specs.Compiled.{schema_instances, fact_instances, disjunctive_instances, compiled_instances}
 use Rattle.asp_atoms.proofs.Choosing.{flat_map_agrees}
 use Rattle.asp_ground.proofs.Products.{flat_map_map}
@@ -44,9 +46,9 @@ use Rattle.asp_defs.proofs.TextRefutations.{clash}
 -- ---- what is known of terms, atoms and literals
 
 -- their constants stand in the vocabulary, and their variables in a list
-record Among (v : Vocabulary) (ws : List Term) (constants : List Const) (variables : List Term) : Type 0 where
-  known : (c : Const) → IsIn c constants → IsIn c v.constants
-  within : (w : Term) → IsIn w variables → IsIn w ws
+pub record Among (v : Vocabulary) (ws : List Term) (constants : List Const) (variables : List Term) : Type 0 where
+  pub known : (c : Const) → IsIn c constants → IsIn c v.constants
+  pub within : (w : Term) → IsIn w variables → IsIn w ws
 
 known_term : (v : Vocabulary) (ws : List Term) (t : Term) → Among v ws (term_constants t) (term_variables t) → is_single t ≡ true → KnownTerm v (first_occurrences ws) t
 known_term v ws (Int x) among single = among.known (const.Int x) (inl refl)
@@ -57,7 +59,7 @@ known_term v ws (Anon k) among single =
     any_place (same_variable (Anon k)) (first_occurrences ws) (occurs ws (Anon k) (same_self (Anon k) (Anon k) (inl refl)) (among.within (Anon k) (inl refl)))
 known_term v ws (Range low high) among single = clash single
 
-known_atom : (v : Vocabulary) (ws : List Term) (a : Atom) → Among v ws (atom_constants a) (atom_variables a) → IsIn (atom_predicate a) (map unnumbered v.predicates) → is_single_atom a ≡ true → KnownAtom v (first_occurrences ws) a
+pub known_atom : (v : Vocabulary) (ws : List Term) (a : Atom) → Among v ws (atom_constants a) (atom_variables a) → IsIn (atom_predicate a) (map unnumbered v.predicates) → is_single_atom a ≡ true → KnownAtom v (first_occurrences ws) a
 known_atom v ws a among predicate single = record {
   predicate = predicate;
   terms = λ t i. known_term v ws t (record {
@@ -88,7 +90,7 @@ pub record KnownParts (v : Vocabulary) (head : Head) (body : List Literal) : Typ
   pub predicates : (q : Predicate) → IsIn q (head_predicates head ++ flat_map literal_predicates body) → IsIn q (map unnumbered v.predicates)
   pub single : (is_single_head head ≡ true) × (list_all is_single_literal body ≡ true)
 
-disjunctive_known : (v : Vocabulary) (atoms : List Atom) (body : List Literal) → KnownParts v (Disj atoms) body → KnownSchema v (disjunctive_schema atoms body)
+pub disjunctive_known : (v : Vocabulary) (atoms : List Atom) (body : List Literal) → KnownParts v (Disj atoms) body → KnownSchema v (disjunctive_schema atoms body)
 disjunctive_known v atoms body known = record {
   heads = λ a i. known_atom v (disjunctive_written atoms body) a (record {
     known = λ c j. known.constants c (append_left (flat_map atom_constants atoms) (flat_map literal_constants body) c (flat_from atom_constants atoms a c i j));
@@ -103,20 +105,20 @@ disjunctive_known v atoms body known = record {
 }
 
 -- what is known of the literals of a body, beside an element
-record KnownBody (v : Vocabulary) (ws : List Term) (body : List Literal) : Type 0 where
-  constants : (c : Const) → IsIn c (flat_map literal_constants body) → IsIn c v.constants
-  predicates : (q : Predicate) → IsIn q (flat_map literal_predicates body) → IsIn q (map unnumbered v.predicates)
-  variables : (w : Term) → IsIn w (flat_map literal_variables body) → IsIn w ws
-  single : list_all is_single_literal body ≡ true
+pub record KnownBody (v : Vocabulary) (ws : List Term) (body : List Literal) : Type 0 where
+  pub constants : (c : Const) → IsIn c (flat_map literal_constants body) → IsIn c v.constants
+  pub predicates : (q : Predicate) → IsIn q (flat_map literal_predicates body) → IsIn q (map unnumbered v.predicates)
+  pub variables : (w : Term) → IsIn w (flat_map literal_variables body) → IsIn w ws
+  pub single : list_all is_single_literal body ≡ true
 
-known_body : (v : Vocabulary) (ws : List Term) (body : List Literal) → KnownBody v ws body → (l : Literal) → IsIn l body → KnownLiteral v (first_occurrences ws) l
+pub known_body : (v : Vocabulary) (ws : List Term) (body : List Literal) → KnownBody v ws body → (l : Literal) → IsIn l body → KnownLiteral v (first_occurrences ws) l
 known_body v ws body known l i = known_literal v ws l (record {
   known = λ c j. known.constants c (flat_from literal_constants body l c i j);
   within = λ w j. known.variables w (flat_from literal_variables body l w i j);
 }) (λ q j. known.predicates q (flat_from literal_predicates body l q i j)) (all_at is_single_literal body l known.single i)
 
-element_known : (v : Vocabulary) (elements : List Element) (body : List Literal) (e : Element) → IsIn e elements → KnownParts v (Choice elements) body → KnownSchema v (element_schema body e)
-element_known v elements body e i known =
+element_known : (v : Vocabulary) (low : Option ℤ) (elements : List Element) (high : Option ℤ) (body : List Literal) (e : Element) → IsIn e elements → KnownParts v (Choice low elements high) body → KnownSchema v (element_schema body e)
+element_known v low elements high body e i known =
     let parts : (is_single_atom e.atom ≡ true) × (list_all is_single_literal e.cond ≡ true) =
     both (is_single_atom e.atom) (list_all is_single_literal e.cond) (all_at is_single_element elements e known.single.0 i) in
     record {
@@ -172,7 +174,7 @@ pub record KnownRule (v : Vocabulary) (head : Head) (body : List Literal) : Type
   pub safe : first_unsafe (make_rule head body) ≡ None
   pub few : variable_count (make_rule head body) ≤ 16
 
-parts_of : (v : Vocabulary) (head : Head) (body : List Literal) → KnownRule v head body → is_single_head head && list_all is_single_literal body ≡ true → KnownParts v head body
+pub parts_of : (v : Vocabulary) (head : Head) (body : List Literal) → KnownRule v head body → is_single_head head && list_all is_single_literal body ≡ true → KnownParts v head body
 parts_of v head body known single = record {
   constants = known.constants;
   predicates = known.predicates;
@@ -221,13 +223,13 @@ known_fact v a known =
 
 -- ---- schemas with the variables that are found
 
-written_by : {A : Type 0} (f : A → List Term) (xs : List A) → ((x : A) (w : Term) → IsIn w (f x) → same_variable w w ≡ true) → (w : Term) → IsIn w (flat_map f xs) → same_variable w w ≡ true
+pub written_by : {A : Type 0} (f : A → List Term) (xs : List A) → ((x : A) (w : Term) → IsIn w (f x) → same_variable w w ≡ true) → (w : Term) → IsIn w (flat_map f xs) → same_variable w w ≡ true
 written_by f xs h w i = let found = flat_at f xs w i in h found.0 w found.2
 
 atom_self : (a : Atom) (w : Term) → IsIn w (atom_variables a) → same_variable w w ≡ true
 atom_self a w i = written_self a.args w i
 
-literal_self : (l : Literal) (w : Term) → IsIn w (literal_variables l) → same_variable w w ≡ true
+pub literal_self : (l : Literal) (w : Term) → IsIn w (literal_variables l) → same_variable w w ≡ true
 literal_self (Pos a) w i = atom_self a w i
 literal_self (Neg a) w i = atom_self a w i
 literal_self (Cmp x op y) w i = elim (append_at (term_variables x) (term_variables y) w i) [
@@ -254,8 +256,8 @@ pub disjunctive_found : (heads : List Atom) (body : List Literal) → variable_c
 disjunctive_found heads body few = found_is (disjunctive_written heads body) (disjunctive_self heads body) few
 
 -- where an element's variables stand in the rule
-in_rule : (elements : List Element) (body : List Literal) (e : Element) (w : Term) → IsIn e elements → IsIn w (element_written body e) → IsIn w (rule_variables (make_rule (Choice elements) body))
-in_rule elements body e w i j = elim (append_at (atom_variables e.atom) (flat_map literal_variables e.cond ++ flat_map literal_variables body) w j) [
+in_rule : (low : Option ℤ) (elements : List Element) (high : Option ℤ) (body : List Literal) (e : Element) (w : Term) → IsIn e elements → IsIn w (element_written body e) → IsIn w (rule_variables (make_rule (Choice low elements high) body))
+in_rule low elements high body e w i j = elim (append_at (atom_variables e.atom) (flat_map literal_variables e.cond ++ flat_map literal_variables body) w j) [
   | inl k ↦ front (append_left (atom_variables e.atom) (flat_map literal_variables e.cond) w k)
   | inr k ↦ elim (append_at (flat_map literal_variables e.cond) (flat_map literal_variables body) w k) [
     | inl m ↦ front (append_right (atom_variables e.atom) (flat_map literal_variables e.cond) w m)
@@ -266,10 +268,41 @@ in_rule elements body e w i j = elim (append_at (atom_variables e.atom) (flat_ma
     front : IsIn w (element_variables e) → IsIn w (flat_map element_variables elements ++ flat_map literal_variables body)
     front m = append_left (flat_map element_variables elements) (flat_map literal_variables body) w (flat_from element_variables elements e w i m)
 
-pub element_found : (elements : List Element) (body : List Literal) (e : Element) → IsIn e elements → variable_count (make_rule (Choice elements) body) ≤ 16 → found.element_variables body e ≡ first_occurrences (element_written body e)
-element_found elements body e i few =
-    let fewer = few_among (element_written body e) (rule_variables (make_rule (Choice elements) body)) (element_self body e) (λ w j. in_rule elements body e w i j) in
+pub element_found : (low : Option ℤ) (elements : List Element) (high : Option ℤ) (body : List Literal) (e : Element) → IsIn e elements → variable_count (make_rule (Choice low elements high) body) ≤ 16 → found.element_variables body e ≡ first_occurrences (element_written body e)
+element_found low elements high body e i few =
+    let fewer = few_among (element_written body e) (rule_variables (make_rule (Choice low elements high) body)) (element_self body e) (λ w j. in_rule low elements high body e w i j) in
     found_is (element_written body e) (element_self body e) (omega (arith, few, fewer))
+
+-- the variables of a body that are found, and those of a body and an element
+in_body : (low : Option ℤ) (elements : List Element) (high : Option ℤ) (body : List Literal) (w : Term) → IsIn w (flat_map literal_variables body) → IsIn w (rule_variables (make_rule (Choice low elements high) body))
+in_body low elements high body w j = append_right (flat_map element_variables elements) (flat_map literal_variables body) w j
+
+pub body_found : (low : Option ℤ) (elements : List Element) (high : Option ℤ) (body : List Literal) → variable_count (make_rule (Choice low elements high) body) ≤ 16 → disjunctive_variables [] body ≡ body_variables body
+body_found low elements high body few =
+    let self : (w : Term) → IsIn w (flat_map literal_variables body) → same_variable w w ≡ true = λ w i. written_by literal_variables body literal_self w i in
+    let fewer = few_among (flat_map literal_variables body) (rule_variables (make_rule (Choice low elements high) body)) self (in_body low elements high body) in
+    found_is (flat_map literal_variables body) self (omega (arith, few, fewer))
+
+abbrev pub bound_written : List Literal → Element → List Term
+bound_written body e = flat_map literal_variables body ++ (atom_variables e.atom ++ flat_map literal_variables e.cond)
+
+bound_self : (body : List Literal) (e : Element) (w : Term) → IsIn w (bound_written body e) → same_variable w w ≡ true
+bound_self body e w i = elim (append_at (flat_map literal_variables body) (atom_variables e.atom ++ flat_map literal_variables e.cond) w i) [
+  | inl j ↦ written_by literal_variables body literal_self w j
+  | inr j ↦ elim (append_at (atom_variables e.atom) (flat_map literal_variables e.cond) w j) [
+    | inl k ↦ atom_self e.atom w k
+    | inr k ↦ written_by literal_variables e.cond literal_self w k
+  ]
+]
+
+pub bound_found : (low : Option ℤ) (elements : List Element) (high : Option ℤ) (body : List Literal) (e : Element) → IsIn e elements → variable_count (make_rule (Choice low elements high) body) ≤ 16 → found_variables body e ≡ bound_variables body e
+bound_found low elements high body e i few =
+    let fewer = few_among (bound_written body e) (rule_variables (make_rule (Choice low elements high) body)) (bound_self body e) (λ w j.
+    elim (append_at (flat_map literal_variables body) (atom_variables e.atom ++ flat_map literal_variables e.cond) w j) [
+      | inl k ↦ in_body low elements high body w k
+      | inr k ↦ append_left (flat_map element_variables elements) (flat_map literal_variables body) w (flat_from element_variables elements e w i k)
+    ]) in
+    found_is (bound_written body e) (bound_self body e) (omega (arith, few, fewer))
 
 -- a schema with its variables in another form
 abbrev disjunctive_with : List Atom → List Literal → List Term → Schema
@@ -281,7 +314,7 @@ element_with body e variables = record { choice = true; heads = e.atom ∷ []; b
 -- ---- any rule
 
 -- a rule whose schema is that of a disjunction
-plain_is : (atoms : List GroundAtom) (v : Vocabulary) (U : List Const) (ranks : List ℕ) (heads : List Atom) (body : List Literal) → Numbers atoms v → Ranked v U ranks → KnownParts v (Disj heads) body → variable_count (make_rule (Disj heads) body) ≤ 16 → flat_map (all_instances atoms U) (disjunctive_schema heads body ∷ []) ≡ schema_instances v ranks (found_disjunctive heads body)
+pub plain_is : (atoms : List GroundAtom) (v : Vocabulary) (U : List Const) (ranks : List ℕ) (heads : List Atom) (body : List Literal) → Numbers atoms v → Ranked v U ranks → KnownParts v (Disj heads) body → variable_count (make_rule (Disj heads) body) ≤ 16 → flat_map (all_instances atoms U) (disjunctive_schema heads body ∷ []) ≡ schema_instances v ranks (found_disjunctive heads body)
 plain_is atoms v U ranks heads body n ranked known few =
     append-nil (all_instances atoms U (disjunctive_schema heads body))
     ∙ schema_is atoms v (disjunctive_schema heads body) U ranks n ranked.same ranked.below (disjunctive_known v heads body known)
@@ -298,17 +331,17 @@ disjunctive_is atoms v U ranks (a ∷ b ∷ more) body n ranked known =
     plain_is atoms v U ranks (a ∷ b ∷ more) body n ranked (parts_of v (Disj (a ∷ b ∷ more)) body known known.intervals) known.few
     ∙ ap (λ one. either v ranks (a ∷ b ∷ more) body a (one && (length body == 0))) (sym (ne_eqb (suc (suc (length more))) 1 (more_is_not (length more))))
 
-choice_is : (atoms : List GroundAtom) (v : Vocabulary) (U : List Const) (ranks : List ℕ) (elements : List Element) (body : List Literal) → Numbers atoms v → Ranked v U ranks → KnownParts v (Choice elements) body → variable_count (make_rule (Choice elements) body) ≤ 16 → flat_map (all_instances atoms U) (head_schemas (Choice elements) body) ≡ flat_map (λ e. schema_instances v ranks (found_element body e)) elements
-choice_is atoms v U ranks elements body n ranked known few =
+choice_is : (atoms : List GroundAtom) (v : Vocabulary) (U : List Const) (ranks : List ℕ) (low : Option ℤ) (elements : List Element) (high : Option ℤ) (body : List Literal) → Numbers atoms v → Ranked v U ranks → KnownParts v (Choice low elements high) body → variable_count (make_rule (Choice low elements high) body) ≤ 16 → flat_map (all_instances atoms U) (head_schemas (Choice low elements high) body) ≡ flat_map (λ e. schema_instances v ranks (found_element body e)) elements
+choice_is atoms v U ranks low elements high body n ranked known few =
     flat_map_map (all_instances atoms U) (element_schema body) elements
     ∙ flat_map_agrees (λ e. all_instances atoms U (element_schema body e)) (λ e. schema_instances v ranks (found_element body e)) elements
-    (λ e i. schema_is atoms v (element_schema body e) U ranks n ranked.same ranked.below (element_known v elements body e i known)
-    ∙ ap (λ vs. schema_instances v ranks (element_with body e vs)) (sym (element_found elements body e i few)))
+    (λ e i. schema_is atoms v (element_schema body e) U ranks n ranked.same ranked.below (element_known v low elements high body e i known)
+    ∙ ap (λ vs. schema_instances v ranks (element_with body e vs)) (sym (element_found low elements high body e i few)))
 
 head_is : (atoms : List GroundAtom) (v : Vocabulary) (U : List Const) (ranks : List ℕ) (head : Head) (body : List Literal) → Numbers atoms v → Ranked v U ranks → KnownRule v head body → rule_instances atoms U (make_rule head body) ≡ compiled_instances v ranks (make_rule head body)
 head_is atoms v U ranks (Disj heads) body n ranked known = disjunctive_is atoms v U ranks heads body n ranked known
-head_is atoms v U ranks (Choice elements) body n ranked known =
-    choice_is atoms v U ranks elements body n ranked (parts_of v (Choice elements) body known known.intervals) known.few
+head_is atoms v U ranks (Choice low elements high) body n ranked known =
+    choice_is atoms v U ranks low elements high body n ranked (parts_of v (Choice low elements high) body known known.intervals) known.few
 
 pub rule_is : (atoms : List GroundAtom) (v : Vocabulary) (U : List Const) (ranks : List ℕ) (r : Rule) → Numbers atoms v → Ranked v U ranks → KnownRule v r.head r.body → rule_instances atoms U r ≡ compiled_instances v ranks r
 rule_is atoms v U ranks r n ranked known = head_is atoms v U ranks r.head r.body n ranked known

@@ -22,7 +22,7 @@ use Rattle.asp_defs.specs.Games.{is_formed, is_constraint}
 use Rattle.asp_defs.proofs.Lists.{both, and_true, all_at, all_from, append_at, append_left, append_right, map_at, map_from}
 use Rattle.asp_defs.proofs.TextRefutations.{clash}
 use Rattle.asp_check.specs.Condition.{is_single, is_single_atom, is_single_literal, is_single_element, is_single_head, has_intervals_in_facts}
-use Rattle.asp_check.proofs.Members.{flat_at, flat_from}
+use Rattle.asp_walk.proofs.Lists.{flat_at, flat_from}
 use Rattle.asp_ground.proofs.Parts.{make_predicate, make_rule, with_args, disjunctive_written, element_written}
 use Rattle.asp_ground.proofs.Products.{tuple_length, tuple_member}
 use Rattle.asp_ground.proofs.Occurrences.{occurs}
@@ -35,7 +35,7 @@ pub record Written (U : List Const) (Q : List Predicate) (cs : List Const) (qs :
 
 -- ---- disjunctions
 
-disjunctive_known : (U : List Const) (Q : List Predicate) (atoms : List Atom) (body : List Literal) → Written U Q (flat_map atom_constants atoms ++ flat_map literal_constants body) (map atom_predicate atoms ++ flat_map literal_predicates body) → list_all is_single_atom atoms ≡ true → list_all is_single_literal body ≡ true → KnownSchema U Q (disjunctive_schema atoms body)
+pub disjunctive_known : (U : List Const) (Q : List Predicate) (atoms : List Atom) (body : List Literal) → Written U Q (flat_map atom_constants atoms ++ flat_map literal_constants body) (map atom_predicate atoms ++ flat_map literal_predicates body) → list_all is_single_atom atoms ≡ true → list_all is_single_literal body ≡ true → KnownSchema U Q (disjunctive_schema atoms body)
 disjunctive_known U Q atoms body written heads rest = record {
   heads = λ a i. known_atom U Q vars a (atom_part a i) (all_at is_single_atom atoms a heads i);
   body = λ l i. body_known U Q vars body body_part rest l i;
@@ -189,8 +189,8 @@ schema_known U Q (Disj (a ∷ b ∷ more)) body written single s (inl e) =
     let parts = both (is_single_head (Disj (a ∷ b ∷ more))) (list_all is_single_literal body) single in
     subst (λ x. KnownSchema U Q x) (sym e) (disjunctive_known U Q (a ∷ b ∷ more) body written parts.0 parts.1)
 schema_known U Q (Disj (a ∷ b ∷ more)) body written single s (inr i) = absurd i
-schema_known U Q (Choice elements) body written single s i =
-    let parts = both (is_single_head (Choice elements)) (list_all is_single_literal body) single in
+schema_known U Q (Choice low elements high) body written single s i =
+    let parts = both (is_single_head (Choice low elements high)) (list_all is_single_literal body) single in
     let e = map_at (element_schema body) elements s i in
     subst (λ x. KnownSchema U Q x) (sym e.2) (element_known U Q elements body e.0 e.1 written (all_at is_single_element elements e.0 parts.0 e.1) parts.1)
 
@@ -208,7 +208,7 @@ schema_formed (Disj (a ∷ [])) (l ∷ ls) s (inl e) = ap has_form e
 schema_formed (Disj (a ∷ [])) (l ∷ ls) s (inr i) = absurd i
 schema_formed (Disj (a ∷ b ∷ more)) body s (inl e) = ap has_form e
 schema_formed (Disj (a ∷ b ∷ more)) body s (inr i) = absurd i
-schema_formed (Choice elements) body s i = let e = map_at (element_schema body) elements s i in ap has_form e.2
+schema_formed (Choice low elements high) body s i = let e = map_at (element_schema body) elements s i in ap has_form e.2
 
 pub instance_formed : (atoms : List GroundAtom) (head : Head) (body : List Literal) (s : Schema) (values : List Const) → IsIn s (head_schemas head body) → is_formed (rule_under atoms s values) ≡ true
 instance_formed atoms head body s values i =
@@ -220,7 +220,7 @@ constraint_schema : (head : Head) (body : List Literal) → is_no_head head ≡ 
 constraint_schema (Disj []) body h s (inl e) = e
 constraint_schema (Disj []) body h s (inr i) = absurd i
 constraint_schema (Disj (a ∷ more)) body h s i = clash h
-constraint_schema (Choice elements) body h s i = clash h
+constraint_schema (Choice low elements high) body h s i = clash h
 
 pub instance_constraint : (atoms : List GroundAtom) (head : Head) (body : List Literal) (s : Schema) (values : List Const) → is_no_head head ≡ true → IsIn s (head_schemas head body) → is_constraint (rule_under atoms s values) ≡ true
 instance_constraint atoms head body s values h i = ap (λ x. is_constraint (rule_under atoms x values)) (constraint_schema head body h s i)

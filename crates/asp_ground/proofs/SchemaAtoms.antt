@@ -21,8 +21,7 @@ use Rattle.asp_defs.specs.Games.{within, rule_atoms}
 use Rattle.asp_defs.proofs.Lists.{all_at, append_at, map_at, map_from}
 use Rattle.asp_defs.proofs.TextRefutations.{clash}
 use Rattle.asp_check.specs.Condition.{is_single, is_single_atom, is_single_literal}
-use Rattle.asp_check.proofs.Members.{flat_at, flat_from}
-use Rattle.asp_check.proofs.Steps.{get_is_in}
+use Rattle.asp_walk.proofs.Lists.{flat_at, flat_from, get_is_in}
 use Rattle.asp_defs.proofs.SafetyLaws.{itself as same_self}
 use Rattle.asp_ground.proofs.Parts.{make_predicate}
 use Rattle.asp_ground.proofs.Products.{tuple_length, tuple_member, in_replicate}
@@ -139,7 +138,7 @@ one_or_none false x r i = absurd i
 pub instance_is : (atoms : List GroundAtom) (s : Schema) (values : List Const) (r : GroundRule) → IsIn r (instance atoms s values) → r ≡ rule_under atoms s values
 instance_is atoms s values r i = one_or_none (list_all (comparison_true s.variables values) s.body) (rule_under atoms s values) r i
 
-under_within : (p : Program) (i : ℕ) (s : Schema) (values : List Const) → IsIn values (assignments (universe p i) s) → KnownSchema (universe p i) (predicates p i) s → (n : ℕ) → IsIn n (rule_atoms (rule_under (base_atoms p (last_level p)) s values)) → IsIn n (base_numbers p i)
+pub under_within : (p : Program) (i : ℕ) (s : Schema) (values : List Const) → IsIn values (assignments (universe p i) s) → KnownSchema (universe p i) (predicates p i) s → (n : ℕ) → IsIn n (rule_atoms (rule_under (base_atoms p (last_level p)) s values)) → IsIn n (base_numbers p i)
 under_within p i s values m known n j =
     elim (append_at (map number s.heads) (map number (flat_map pos_atoms s.body) ++ map number (flat_map neg_atoms s.body)) n j) [
       | inl k ↦ numbered s.heads (λ a h. known.heads a h) k

@@ -16,7 +16,7 @@ use Rattle.asp_defs.specs.Lists.{IsIn}
 use Rattle.asp_defs.specs.Constants.{const_cmp}
 use Rattle.asp_defs.specs.Bases.{product, atom_number}
 use Rattle.asp_defs.specs.Instances.{Schema, term_value, atom_instance, op_holds, comparison_true, pos_atoms, neg_atoms, instance, assignments}
-use Rattle.asp_check.proofs.Members.{flat_at}
+use Rattle.asp_walk.proofs.Lists.{flat_at}
 use Rattle.asp_atoms.specs.declared.vocabularies.Vocabulary.{Vocabulary}
 use Rattle.asp_ground.specs.Ranks.{capped}
 use Rattle.asp_ground.specs.Templates.{slot_rank, number_at, is_true, instance_at}
@@ -42,7 +42,7 @@ comparison_is atoms v variables ranks x y op n fits left right =
     ∙ (ap (λ (c : Const). op_holds op (const_cmp (const_at v.constants (slot_rank ranks (slot_of v.constants variables x))) c)) second.value
     ∙ compared v op (slot_rank ranks (slot_of v.constants variables x)) (slot_rank ranks (slot_of v.constants variables y)) n.ordered.constants first.inside second.inside)
 
-comparisons_are : (atoms : List GroundAtom) (v : Vocabulary) (variables : List Term) (ranks : List ℕ) (body : List Literal) → Numbers atoms v → Fits v variables ranks → ((l : Literal) → IsIn l body → KnownLiteral v variables l) → list_all (comparison_true variables (map (const_at v.constants) ranks)) body ≡ list_all (is_true ranks) (flat_map (comparisons_of v.constants variables) body)
+pub comparisons_are : (atoms : List GroundAtom) (v : Vocabulary) (variables : List Term) (ranks : List ℕ) (body : List Literal) → Numbers atoms v → Fits v variables ranks → ((l : Literal) → IsIn l body → KnownLiteral v variables l) → list_all (comparison_true variables (map (const_at v.constants) ranks)) body ≡ list_all (is_true ranks) (flat_map (comparisons_of v.constants variables) body)
 comparisons_are atoms v variables ranks [] n fits known = refl
 comparisons_are atoms v variables ranks (Pos a ∷ body) n fits known =
     comparisons_are atoms v variables ranks body n fits (λ l i. known l (inr i))
@@ -55,12 +55,12 @@ comparisons_are atoms v variables ranks (Cmp x op y ∷ body) n fits known =
 
 -- ---- atoms
 
-atoms_are : (atoms : List GroundAtom) (v : Vocabulary) (variables : List Term) (ranks : List ℕ) (written : List Atom) → Numbers atoms v → Fits v variables ranks → ((a : Atom) → IsIn a written → KnownAtom v variables a) → map (λ (a : Atom). atom_number atoms (atom_instance variables (map (const_at v.constants) ranks) a)) written ≡ map (number_at (capped (length v.constants)) ranks) (map (atom_template v variables) written)
+pub atoms_are : (atoms : List GroundAtom) (v : Vocabulary) (variables : List Term) (ranks : List ℕ) (written : List Atom) → Numbers atoms v → Fits v variables ranks → ((a : Atom) → IsIn a written → KnownAtom v variables a) → map (λ (a : Atom). atom_number atoms (atom_instance variables (map (const_at v.constants) ranks) a)) written ≡ map (number_at (capped (length v.constants)) ranks) (map (atom_template v variables) written)
 atoms_are atoms v variables ranks written n fits known =
     map_agrees (λ (a : Atom). atom_number atoms (atom_instance variables (map (const_at v.constants) ranks) a)) (λ (a : Atom). number_at (capped (length v.constants)) ranks (atom_template v variables a)) written (λ a i. sym (atom_is atoms v variables ranks a n fits.same fits.below (known a i)))
     ∙ sym (map_map (number_at (capped (length v.constants)) ranks) (atom_template v variables) written)
 
-known_pos : (v : Vocabulary) (variables : List Term) (body : List Literal) → ((l : Literal) → IsIn l body → KnownLiteral v variables l) → (a : Atom) → IsIn a (flat_map pos_atoms body) → KnownAtom v variables a
+pub known_pos : (v : Vocabulary) (variables : List Term) (body : List Literal) → ((l : Literal) → IsIn l body → KnownLiteral v variables l) → (a : Atom) → IsIn a (flat_map pos_atoms body) → KnownAtom v variables a
 known_pos v variables body known a i =
     let found = flat_at pos_atoms body a i in of found.0 (known found.0 found.1) found.2
   where
@@ -70,7 +70,7 @@ known_pos v variables body known a i =
     of (Neg b) k j = absurd j
     of (Cmp x op y) k j = absurd j
 
-known_neg : (v : Vocabulary) (variables : List Term) (body : List Literal) → ((l : Literal) → IsIn l body → KnownLiteral v variables l) → (a : Atom) → IsIn a (flat_map neg_atoms body) → KnownAtom v variables a
+pub known_neg : (v : Vocabulary) (variables : List Term) (body : List Literal) → ((l : Literal) → IsIn l body → KnownLiteral v variables l) → (a : Atom) → IsIn a (flat_map neg_atoms body) → KnownAtom v variables a
 known_neg v variables body known a i =
     let found = flat_at neg_atoms body a i in of found.0 (known found.0 found.1) found.2
   where

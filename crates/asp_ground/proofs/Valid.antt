@@ -15,14 +15,15 @@ use Rattle.asp_defs.specs.ConstraintPart.{level_rule_count, headed_in}
 use Rattle.asp_defs.specs.Limits.{past_limit, most_arguments, most_literals, most_variables, too_large_in}
 use Rattle.asp_defs.specs.Sizes.{constant_total, atom_total, instance_total, game_too_large}
 use Rattle.asp_defs.specs.Checks.{HeadedRule, PastLimit, safety_refusal, form_refusal, size_refusal, is_checked}
-use Rattle.asp_defs.specs.Games.{game_of, level_count, level_ground, base, rules_of, within, rule_atoms, is_constraint, IsValid}
+use Rattle.asp_defs.specs.Bounds.{bound_atoms}
+use Rattle.asp_defs.specs.Games.{game_of, level_count, level_ground, level_bounds, base, rules_of, bounds_of, within, rule_atoms, is_constraint, IsValid}
 use Rattle.asp_defs.proofs.Lists.{all_at}
 use Rattle.asp_defs.proofs.TextRefutations.{clash}
 use Rattle.asp_check.specs.Condition.{IsCheckable, has_intervals_in_facts}
 use Rattle.asp_atoms.proofs.Assembling.{base_atoms_ascend}
 use Rattle.asp_atoms.proofs.Counting.{within_limit, first_none, second_none, unmapped, no_one}
 use Rattle.asp_ground.proofs.BaseAtoms.{base_numbers, bases_ascend, bases_nested, bases_long, base_at, first_empty, last_long, last_below}
-use Rattle.asp_ground.proofs.LevelRules.{rules_long, written_rules, level_at, level_within, levels_formed, level_constraints, last_rules, none_headed}
+use Rattle.asp_ground.proofs.LevelRules.{rules_long, bounds_long, written_rules, level_at, bounds_at, level_within, level_bounds_within, levels_formed, level_constraints, level_unbounded, last_rules, none_headed}
 
 -- ---- what the checks and the limits say
 
@@ -70,6 +71,19 @@ all_within p checkable i low high =
     ∙ (ap (λ B. list_all (λ r. within (rule_atoms r) B) (level_ground p (i, written_rules p i))) (base_at p i high)
     ∙ level_within p (λ r m. all_at has_intervals_in_facts (all_rules p) r checkable.intervals m) i low high)
 
+bounds_within : (p : Program) → IsCheckable p → (i : ℕ) → 1 ≤ i → i ≤ last_level p → list_all (λ b. within (bound_atoms b) (base (game_of p) i)) (bounds_of (game_of p) i) ≡ true
+bounds_within p checkable i low high =
+    ap (λ bounds. list_all (λ b. within (bound_atoms b) (base (game_of p) i)) bounds) (bounds_at p i low high)
+    ∙ (ap (λ B. list_all (λ b. within (bound_atoms b) B) (level_bounds p (i, written_rules p i))) (base_at p i high)
+    ∙ level_bounds_within p (λ r m. all_at has_intervals_in_facts (all_rules p) r checkable.intervals m) i low high)
+
+last_unbounded : (p : Program) → IsTrue (is_checked p) → bounds_of (game_of p) (level_count (game_of p) + 1) ≡ []
+last_unbounded p checked =
+    ap (bounds_of (game_of p)) (last_is p)
+    ∙ (bounds_at p (last_level p) (omega arith) (omega arith)
+    ∙ (ap (λ rules. level_bounds p (last_level p, rules)) (last_rules p)
+    ∙ level_unbounded p (none_headed (level_rule_count p + 1) p.cons (no_headed p checked)) (last_level p)))
+
 last_constraints : (p : Program) → IsTrue (is_checked p) → list_all is_constraint (rules_of (game_of p) (level_count (game_of p) + 1)) ≡ true
 last_constraints p checked =
     ap (λ n. list_all is_constraint (rules_of (game_of p) n)) (last_is p)
@@ -90,6 +104,7 @@ text_game_is_valid p checked checkable small =
       few_levels = omega (arith, counted, most);
       few_atoms = few_atoms p small;
       rule_lists = rules ∙ sym last;
+      bound_lists = bounds_long p ∙ sym last;
       base_lists = omega (arith, bases, last);
       ordered_atoms = base_atoms_ascend p (last_level p);
       ordered_bases = bases_ascend p;
@@ -98,6 +113,8 @@ text_game_is_valid p checked checkable small =
       last_base = ap length (last_base_is p) ∙ last_long p;
       last_within = ap (list_all (λ a. nat_lt a (length (base_atoms p (last_level p))))) (last_base_is p) ∙ last_below p;
       rules_within = λ i low high. all_within p checkable i low (omega (arith, last, high));
+      bounds_within = λ i low high. bounds_within p checkable i low (omega (arith, last, high));
       choices = λ i. levels_formed p (i - 1);
       constraints = last_constraints p checked;
+      unbounded = last_unbounded p checked;
     }

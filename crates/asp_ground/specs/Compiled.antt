@@ -17,6 +17,7 @@ use Rattle.asp_defs.specs.declared.syntax.Program.{Program}
 use Rattle.asp_defs.specs.Constants.{interval, level_rules}
 use Rattle.asp_defs.specs.Bases.{atom_predicate}
 use Rattle.asp_defs.specs.Instances.{Schema, same_variable, pos_atoms, neg_atoms}
+use Rattle.asp_defs.specs.Consistency.{consistency_constraints}
 use Rattle.asp_defs.specs.Lists.{numbers_from}
 use Rattle.asp_atoms.specs.declared.vocabularies.Vocabulary.{Vocabulary}
 use Rattle.asp_ground.specs.declared.template.Slot.{Slot}
@@ -133,14 +134,15 @@ disjunctive_instances v ranks atoms body =
 
 abbrev pub head_instances : Vocabulary → List ℕ → Head → List Literal → List GroundRule
 head_instances v ranks (Disj atoms) body = disjunctive_instances v ranks atoms body
-head_instances v ranks (Choice elements) body = flat_map (λ e. schema_instances v ranks (found_element body e)) elements
+head_instances v ranks (Choice low elements high) body = flat_map (λ e. schema_instances v ranks (found_element body e)) elements
 
 abbrev pub compiled_instances : Vocabulary → List ℕ → Rule → List GroundRule
 compiled_instances v ranks r = head_instances v ranks r.head r.body
 
--- the instances of the rules of a level, and of all levels
-abbrev pub level_instances : Vocabulary → (ℕ × List Rule) → List GroundRule
-level_instances v level = flat_map (compiled_instances v (get_or v.universes level.0 [])) level.1
+-- the instances of the rules of a level and of its consistency constraints, and of all levels
+abbrev pub level_instances : Vocabulary → Program → (ℕ × List Rule) → List GroundRule
+level_instances v p level =
+    flat_map (compiled_instances v (get_or v.universes level.0 [])) (level.1 ++ consistency_constraints p level.0)
 
 abbrev pub compiled_levels : Vocabulary → Program → List (List GroundRule)
-compiled_levels v p = map (level_instances v) (enumerate_from 1 (level_rules p))
+compiled_levels v p = map (level_instances v p) (enumerate_from 1 (level_rules p))

@@ -12,6 +12,7 @@ use Rattle.asp_defs.specs.declared.syntax.Head.{Head}
 use Rattle.asp_defs.specs.declared.syntax.Head.TheVariants.{Disj, Choice}
 use Rattle.asp_defs.specs.declared.syntax.Rule.{Rule}
 use Rattle.asp_defs.specs.Constants.{const_cmp, with_member, interval_length, rule_constants}
+use Rattle.asp_defs.specs.Instances.{has_bound}
 use Rattle.asp_defs.specs.Limits.{limit}
 use Rattle.asp_atoms.specs.Ascending.{Ascends}
 use Rattle.asp_ground.specs.Variables.{disjunctive_variables, element_variables}
@@ -37,11 +38,14 @@ choice_count (Range low high) = interval_length low high
 abbrev pub fact_count : Atom → ℕ
 fact_count a = fold (λ n t. n * choice_count t) 1 a.args
 
--- how many instances a rule has over so many constants
+-- how many instances a rule has over so many constants, its ground bounds among them: those have the variables of the body,
+-- as a constraint with that body has
 abbrev pub head_count : ℕ → Head → List Literal → ℕ
 head_count size (Disj atoms) body =
     if is_fact atoms body then fact_count (get_or atoms 0 no_atom) else size ^ length (disjunctive_variables atoms body)
-head_count size (Choice elements) body = sum_by (λ e. size ^ length (element_variables body e)) elements
+head_count size (Choice low elements high) body =
+    sum_by (λ e. size ^ length (element_variables body e)) elements
+    + (if has_bound (Choice low elements high) then size ^ length (disjunctive_variables [] body) else 0)
 
 abbrev pub rule_count : ℕ → Rule → ℕ
 rule_count size r = head_count size r.head r.body

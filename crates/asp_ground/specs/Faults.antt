@@ -7,7 +7,7 @@ use Rattle.asp_defs.specs.declared.syntax.Program.{Program}
 use Rattle.asp_defs.specs.Limits.{past_limit}
 use Rattle.asp_defs.specs.Sizes.{instance_total, game_too_large}
 
--- a fault is the refusal of a program for the size of its game: the first limit that it passes with the count, or want of
+-- a fault is the refusal of a program for the size of its game: the first limit that it passes with the count, or out of
 -- memory
 abbrev pub IsGameRefusal : Program → SizeFault → Type 0
 IsGameRefusal p (TooLarge which count) = game_too_large p ≡ Some (which, count)

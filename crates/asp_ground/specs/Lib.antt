@@ -2,6 +2,8 @@ pub mod Ranks
 pub mod Domains
 pub mod Templates
 pub mod Compiled
+pub mod BoundTemplates
+pub mod Walks
 pub mod Counts
 pub mod Faults
 pub mod Gaps

@@ -11,7 +11,7 @@ ghost use Rattle.asp_ground.specs.Compiled.{slot_of, atom_template, comparison, 
 use crate::ranks::{first_of, rank_of};
 use crate::template::{AtomTemplate, Comparison, Slot, Template};
 use crate::variables::is_same;
-use asp_atoms::{Key, Vocabulary};
+use asp_atoms::{ConstRef, Vocabulary};
 use asp_check::Variable;
 use asp_defs::{Atom, Const, List, Literal, NoMemory, Op, Term};
 use std::alloc::Global;
@@ -34,11 +34,11 @@ fn slot_of(constants: &[Const], variables: &[Variable<'_>], term: &Term) -> Slot
     ensures { result ≡ slot_of constants.now (map term_of variables.now) term.now }
 {
     match term {
-        Term::Int(value) => Slot::Rank(rank_of(constants, Key::Int(*value))),
-        Term::Sym(name) => Slot::Rank(rank_of(constants, Key::Sym(name.as_slice()))),
+        Term::Int(value) => Slot::Rank(rank_of(constants, ConstRef::Int(*value))),
+        Term::Sym(name) => Slot::Rank(rank_of(constants, ConstRef::Sym(name.as_slice()))),
         Term::Var(name) => Slot::Variable(place_of(variables, Variable::Named(name.as_slice()))),
         Term::Anon(number) => Slot::Variable(place_of(variables, Variable::Anon(*number))),
-        Term::Range(low, _) => Slot::Rank(rank_of(constants, Key::Int(*low))),
+        Term::Range(low, _) => Slot::Rank(rank_of(constants, ConstRef::Int(*low))),
     }
 }
 

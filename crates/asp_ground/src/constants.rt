@@ -4,12 +4,12 @@ ghost use Rattle.std.specs.Prelude.{IsTrue, [], ◌∷◌, ◌+◌, ◌<◌, len
 ghost use Rattle.std.specs.List.{flat_map};
 ghost use Rattle.asp_defs.specs.Constants.{const_cmp, term_constants, rule_constants};
 ghost use Rattle.asp_atoms.specs.Ascending.{Ascends};
-ghost use Rattle.asp_atoms.specs.Keys.{const_of};
+ghost use Rattle.asp_atoms.specs.ConstRefs.{const_of};
 ghost use Rattle.asp_ground.specs.Gaps.{IsIntegerAt, HasAll, IsPlace};
 ghost use Rattle.asp_ground.specs.Counts.{Gathers};
 
 use arrayvec::ArrayVec;
-use asp_atoms::{Key, compare_keys, interval_length, stepped};
+use asp_atoms::{ConstRef, compare_const_refs, interval_length, stepped};
 use asp_defs::{Rule, Term};
 use asp_walk::Terms;
 
@@ -17,30 +17,30 @@ use asp_walk::Terms;
 const CONSTANT_ROOM: usize = 4097;
 
 /// Ascending constants.
-pub type Constants<'a> = ArrayVec<Key<'a>, CONSTANT_ROOM>;
+pub type Constants<'a> = ArrayVec<ConstRef<'a>, CONSTANT_ROOM>;
 
 /// Where a constant stands among ascending ones, or else where it belongs there.
-fn place_for(found: &[Key<'_>], key: Key<'_>) -> Result<usize, usize>
+fn place_for(found: &[ConstRef<'_>], constant: ConstRef<'_>) -> Result<usize, usize>
     requires { Ascends const_cmp (map const_of found.now) }
-    ensures { IsPlace (map const_of found.now) (const_of key.entry) result }
+    ensures { IsPlace (map const_of found.now) (const_of constant.entry) result }
 {
-    found.binary_search_by(|other| compare_keys(*other, key))
+    found.binary_search_by(|other| compare_const_refs(*other, constant))
 }
 
 /// Whether an integer stands so many places behind a place.
-fn is_behind(found: &[Key<'_>], first: usize, steps: usize, value: i32) -> bool
+fn is_behind(found: &[ConstRef<'_>], first: usize, steps: usize, value: i32) -> bool
     requires { first < length found.now }
     ensures { IsTrue result → IsIntegerAt (map const_of found.now) value (first + steps) }
 {
     if steps >= found.len() - first {
         return false;
     }
-    compare_keys(found[first + steps], Key::Int(value)).is_eq()
+    compare_const_refs(found[first + steps], ConstRef::Int(value)).is_eq()
 }
 
 /// Whether all integers of an interval stand among ascending constants: its first one does, and its last one stands as
 /// far behind it as it has to.
-fn has_interval(found: &[Key<'_>], low: i32, high: i32) -> bool
+fn has_interval(found: &[ConstRef<'_>], low: i32, high: i32) -> bool
     requires { Ascends const_cmp (map const_of found.now) }
     ensures { IsTrue result → HasAll (map const_of found.now) (term_constants (Term.Range low high)) }
 {
@@ -48,22 +48,22 @@ fn has_interval(found: &[Key<'_>], low: i32, high: i32) -> bool
     if length == 0 {
         return true;
     }
-    match place_for(found, Key::Int(low)) {
+    match place_for(found, ConstRef::Int(low)) {
         Ok(first) => is_behind(found, first, length - 1, high),
         Err(_) => false,
     }
 }
 
 /// Adds a constant, unless it stands there already.
-fn add_constant<'a>(found: &mut Constants<'a>, key: Key<'a>)
+fn add_constant<'a>(found: &mut Constants<'a>, constant: ConstRef<'a>)
     requires { Ascends const_cmp (map const_of found.old.items) }
-    ensures { Gathers (map const_of found.old.items) (map const_of found.new.items) (const_of key.entry ∷ []) }
+    ensures { Gathers (map const_of found.old.items) (map const_of found.new.items) (const_of constant.entry ∷ []) }
 {
-    match place_for(found.as_slice(), key) {
+    match place_for(found.as_slice(), constant) {
         Ok(_) => {}
         Err(place) => {
             if !found.is_full() {
-                found.insert(place, key);
+                found.insert(place, constant);
             }
         }
     }
@@ -80,7 +80,7 @@ fn add_interval(found: &mut Constants<'_>, low: i32, high: i32)
     }
     for step in 0..interval_length(low, high) {
         let value = stepped(low, high, step);
-        add_constant(found, Key::Int(value));
+        add_constant(found, ConstRef::Int(value));
     }
 }
 
@@ -90,8 +90,8 @@ fn add_term<'a>(found: &mut Constants<'a>, term: &'a Term)
     ensures { Gathers (map const_of found.old.items) (map const_of found.new.items) (term_constants term.now) }
 {
     match term {
-        Term::Int(value) => add_constant(found, Key::Int(*value)),
-        Term::Sym(name) => add_constant(found, Key::Sym(name.as_slice())),
+        Term::Int(value) => add_constant(found, ConstRef::Int(*value)),
+        Term::Sym(name) => add_constant(found, ConstRef::Sym(name.as_slice())),
         Term::Var(_) => {}
         Term::Anon(_) => {}
         Term::Range(low, high) => add_interval(found, *low, *high),

@@ -1,5 +1,5 @@
 //! How many instances a program has.
-ghost use Rattle.std.specs.Prelude.{◌≡◌, ◌^◌, None, min, length};
+ghost use Rattle.std.specs.Prelude.{◌≡◌, ◌^◌, None, [], min, length};
 ghost use Rattle.std.specs.List.{sum_by};
 ghost use Rattle.asp_defs.specs.Bases.{bases_of};
 ghost use Rattle.asp_defs.specs.Limits.{most_shown};
@@ -7,9 +7,10 @@ ghost use Rattle.asp_defs.specs.Sizes.{instance_total};
 ghost use Rattle.asp_atoms.specs.Answers.{base_too_large};
 ghost use Rattle.asp_atoms.specs.Counts.{shown};
 ghost use Rattle.asp_atoms.specs.Vocabularies.{vocabulary_of};
-ghost use Rattle.asp_ground.specs.Variables.{element_variables};
+ghost use Rattle.asp_ground.specs.Variables.{disjunctive_variables as disjunctive_variables_of, element_variables};
 ghost use Rattle.asp_ground.specs.Counts.{choice_count, fact_count, head_count, rule_count, level_count};
 
+use crate::bounds::has_bound;
 use crate::constants::{Constants, add_rules};
 use crate::rules::universe_of;
 use crate::variables::{disjunctive_variables, element_variables};
@@ -54,6 +55,31 @@ fn elements_count(size: u64, elements: &[Element], body: &[Literal]) -> u64
     count
 }
 
+/// How many ground bounds a choice with a bound has over so many constants: as many as a constraint with its body has
+/// instances.
+fn bound_count(size: u64, body: &[Literal]) -> u64
+    ensures { result ≡ shown (size ^ length (disjunctive_variables_of [] body.now)) }
+{
+    power(size, disjunctive_variables(&[], body).len())
+}
+
+/// How many instances a choice has over so many constants, its ground bounds among them.
+fn choice_rule_count(
+    size: u64,
+    low: Option<i32>,
+    elements: &[Element],
+    high: Option<i32>,
+    body: &[Literal],
+) -> u64
+    ensures { result ≡ shown (head_count size (Head.Choice low elements.now high) body.now) }
+{
+    let instances = elements_count(size, elements, body);
+    if !has_bound(low, high) {
+        return instances;
+    }
+    sum(instances, bound_count(size, body))
+}
+
 /// How many instances a disjunctive rule has over so many constants.
 fn disjunction_count(size: u64, atoms: &[Atom], body: &[Literal]) -> u64
     ensures { result ≡ shown (head_count size (Head.Disj atoms.now) body.now) }
@@ -72,7 +98,9 @@ fn rule_count(size: u64, rule: &Rule) -> u64
     let body = rule.body.as_slice();
     match &rule.head {
         Head::Disj(atoms) => disjunction_count(size, atoms.as_slice(), body),
-        Head::Choice(elements) => elements_count(size, elements.as_slice(), body),
+        Head::Choice(low, elements, high) => {
+            choice_rule_count(size, *low, elements.as_slice(), *high, body)
+        }
     }
 }
 

@@ -11,7 +11,7 @@ use crate::domains::Domains;
 use crate::instances::add_all;
 use crate::ranks::{capped, first_of, rank_of};
 use crate::template::{AtomTemplate, Slot, Template};
-use asp_atoms::{Key, Vocabulary, interval_length, stepped};
+use asp_atoms::{ConstRef, Vocabulary, interval_length, stepped};
 use asp_defs::{Atom, Const, GroundRule, List, NoMemory, Term};
 use std::alloc::Global;
 
@@ -28,7 +28,7 @@ fn interval_ranks(
     let mut ranks = Vec::new(alloc);
     for step in 0..interval_length(low, high) {
         let value = stepped(low, high, step);
-        ranks.push(rank_of(constants, Key::Int(value)))?;
+        ranks.push(rank_of(constants, ConstRef::Int(value)))?;
     }
     Ok(ranks)
 }
@@ -40,8 +40,8 @@ fn argument_ranks(alloc: Global, constants: &[Const], term: &Term) -> Result<Vec
 {
     let mut ranks = Vec::new(alloc);
     match term {
-        Term::Int(value) => ranks.push(rank_of(constants, Key::Int(*value)))?,
-        Term::Sym(name) => ranks.push(rank_of(constants, Key::Sym(name.as_slice())))?,
+        Term::Int(value) => ranks.push(rank_of(constants, ConstRef::Int(*value)))?,
+        Term::Sym(name) => ranks.push(rank_of(constants, ConstRef::Sym(name.as_slice())))?,
         Term::Var(_) => {}
         Term::Anon(_) => {}
         Term::Range(low, high) => return interval_ranks(alloc, constants, *low, *high),

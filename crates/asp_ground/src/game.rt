@@ -1,20 +1,27 @@
 //! The game of a program.
-ghost use Rattle.std.specs.Prelude.{◌≡◌, None, map, IfOk, IfErr, OnOk};
-ghost use Rattle.asp_defs.specs.Bases.{bases_of};
+ghost use Rattle.std.specs.Prelude.{◌≡◌, ◌≤◌, ◌+◌, None, map, IfOk, IfErr, OnOk};
+ghost use Rattle.asp_defs.specs.Lists.{IsIn, numbers_from};
+ghost use Rattle.asp_defs.specs.Bases.{Predicate, predicates, last_level, bases_of};
 ghost use Rattle.asp_defs.specs.Games.{game_of};
 ghost use Rattle.asp_defs.specs.Limits.{past_limit};
 ghost use Rattle.asp_defs.specs.Sizes.{instance_total, game_too_large};
 ghost use Rattle.asp_atoms.specs.Answers.{base_too_large};
 ghost use Rattle.asp_atoms.specs.Vocabularies.{vocabulary_of};
 ghost use Rattle.asp_ground.specs.Ranks.{IsOrdered};
+ghost use Rattle.asp_defs.specs.Consistency.{consistency_constraints};
+ghost use Rattle.asp_ground.specs.BoundTemplates.{compiled_level_bounds};
 ghost use Rattle.asp_ground.specs.Compiled.{compiled_levels};
 ghost use Rattle.asp_ground.specs.Faults.{IsInstanceFault, IsGameRefusal};
 
+use crate::bounds::level_bounds;
+use crate::consistency::constraints;
 use crate::counts::instance_count;
 use crate::rules::level_rules;
-use asp_atoms::{Vocabulary, vocabulary};
+use asp_atoms::{Vocabulary, program_signatures, vocabulary};
 use asp_check::Checked;
-use asp_defs::{Bases, Game, GroundRule, List, NoMemory, Part, Program, Quant, SizeFault, Which};
+use asp_defs::{
+    Bases, Bound, Game, GroundRule, List, NoMemory, Part, Program, Quant, Rule, SizeFault, Which,
+};
 use std::alloc::Global;
 
 /// The quantifiers of levels.
@@ -28,22 +35,60 @@ fn quants(alloc: Global, levels: &[Part]) -> Result<List<Quant>, NoMemory>
     Ok(List::from_vec(quants))
 }
 
-/// The instances of the rules of all levels, and last those of the constraint part.
+/// The consistency constraints of the levels, and last those of the constraint part.
+fn levels_constraints(alloc: Global, program: &Program) -> Result<Vec<List<Rule>>, NoMemory>
+    requires short { (q : Predicate) → IsIn q (predicates program.now (last_level program.now)) → q.arity ≤ 16 }
+    ensures { IfOk result (λ all. all.items ≡ map (consistency_constraints program.now) (numbers_from 0 (last_level program.now + 1))) }
+{
+    let signatures = program_signatures(alloc, program)?;
+    let mut all = Vec::with_capacity(alloc, signatures.len())?;
+    for predicates in signatures.as_slice() {
+        all.push(constraints(alloc, predicates.as_slice())?)?;
+    }
+    Ok(all)
+}
+
+/// The instances of the rules of all levels, and last those of the constraint part, with those of their consistency
+/// constraints.
 fn levels_rules(
     alloc: Global,
     vocabulary: &Vocabulary,
     program: &Program,
 ) -> Result<List<List<GroundRule>>, NoMemory>
-    requires { IsOrdered vocabulary.now }
+    requires ordered { IsOrdered vocabulary.now }
+    requires short { (q : Predicate) → IsIn q (predicates program.now (last_level program.now)) → q.arity ≤ 16 }
     ensures { IfOk result (λ rules. rules ≡ compiled_levels vocabulary.now program.now) }
 {
+    let constraints = levels_constraints(alloc, program)?;
     let levels = program.levels.as_slice();
     let mut rules = Vec::with_capacity(alloc, levels.len() + 1)?;
     for (place, level) in levels.iter().enumerate() {
-        rules.push(level_rules(alloc, vocabulary, place + 1, level.rules.as_slice())?)?;
+        let own = level.rules.as_slice();
+        let more = constraints[place + 1].as_slice();
+        rules.push(level_rules(alloc, vocabulary, place + 1, own, more)?)?;
     }
-    rules.push(level_rules(alloc, vocabulary, levels.len() + 1, program.cons.as_slice())?)?;
+    let own = program.cons.as_slice();
+    let last = constraints[levels.len() + 1].as_slice();
+    rules.push(level_rules(alloc, vocabulary, levels.len() + 1, own, last)?)?;
     Ok(List::from_vec(rules))
+}
+
+/// The ground bounds of the rules of all levels, and last those of the constraint part.
+fn levels_bounds(
+    alloc: Global,
+    vocabulary: &Vocabulary,
+    program: &Program,
+) -> Result<List<List<Bound>>, NoMemory>
+    requires { IsOrdered vocabulary.now }
+    ensures { IfOk result (λ bounds. bounds ≡ compiled_level_bounds vocabulary.now program.now) }
+{
+    let levels = program.levels.as_slice();
+    let mut bounds = Vec::with_capacity(alloc, levels.len() + 1)?;
+    for (place, level) in levels.iter().enumerate() {
+        bounds.push(level_bounds(alloc, vocabulary, place + 1, level.rules.as_slice())?)?;
+    }
+    bounds.push(level_bounds(alloc, vocabulary, levels.len() + 1, program.cons.as_slice())?)?;
+    Ok(List::from_vec(bounds))
 }
 
 /// The vocabulary of a program whose game keeps the limits. Atoms and instances are counted, and none is made.
@@ -64,11 +109,12 @@ pub fn measure(alloc: Global, checked: &Checked) -> Result<Vocabulary, SizeFault
     }
 }
 
-/// The game of a program whose vocabulary is known and whose game keeps the limits: all instances of all its rules. An
-/// instance whose comparisons are false is left out, and true comparisons are removed.
+/// The game of a program whose vocabulary is known and whose game keeps the limits: all instances of all its rules, its
+/// consistency constraints behind those of each level, and its ground bounds. An instance whose comparisons are false is
+/// left out, and true comparisons are removed.
 ///
 /// The bases are those that `bases` answered of the program. The time is linear in the instances and their literals. An
-/// instance takes 80 bytes, and each of its literals 4.
+/// instance takes 80 bytes, and each of its literals 4; a counted term of a bound takes 56 bytes.
 ///
 /// # Errors
 ///
@@ -86,11 +132,13 @@ pub fn instantiate(
 {
     let program = checked.program();
     let rules = levels_rules(alloc, vocabulary, program)?;
+    let bounds = levels_bounds(alloc, vocabulary, program)?;
     let quants = quants(alloc, program.levels.as_slice())?;
     Ok(Game {
         quants,
         bases,
         rules,
+        bounds,
     })
 }
 

@@ -23,7 +23,7 @@ fn slot_rank(ranks: &[u32], slot: Slot) -> u32
 }
 
 /// An atom's number. It is below the limit on atoms, so that nothing is cut off.
-fn number_at(size: u32, ranks: &[u32], atom: &AtomTemplate) -> u32
+pub fn number_at(size: u32, ranks: &[u32], atom: &AtomTemplate) -> u32
     ensures { result ≡ number_at size ranks.now atom.now }
 {
     let slots = atom.slots.as_slice();
@@ -37,7 +37,7 @@ fn number_at(size: u32, ranks: &[u32], atom: &AtomTemplate) -> u32
 }
 
 /// The numbers of atoms.
-fn numbers_at(
+pub fn numbers_at(
     alloc: Global,
     size: u32,
     ranks: &[u32],
@@ -67,7 +67,7 @@ fn holds(op: Op, left: u32, right: u32) -> bool
 }
 
 /// Whether all comparisons are true.
-fn are_true(ranks: &[u32], comparisons: &[Comparison]) -> bool
+pub fn are_true(ranks: &[u32], comparisons: &[Comparison]) -> bool
     ensures { result ≡ list_all (is_true ranks.now) comparisons.now }
 {
     for comparison in comparisons {

@@ -7,12 +7,15 @@
 //!
 //! In reading order: `template` (compiled rules), `ranks` (where constants and predicates stand), `variables` (those of
 //! a rule, each once), `compile` (a rule's template), `domains` (what its variables run through), `instances` (a template
-//! under all ranks), `facts` (facts with intervals), `rules` (the instances of rules and levels), `game` (those of a
-//! program), `constants` and `counts` (how many instances there are, counted without taking memory), `laws` (the game of
-//! a program is valid).
+//! under all ranks), `facts` (facts with intervals), `rules` (the instances of rules and levels), `bounds` (the ground
+//! bounds of choices), `consistency` (that an atom and its negation aren't both true), `game` (the game of a program),
+//! `constants` and `counts` (how many instances there are, counted without taking memory), `laws` (the game of a program is
+//! valid).
 #![tactic(auto)]
 
+mod bounds;
 mod compile;
+mod consistency;
 mod constants;
 mod counts;
 mod domains;

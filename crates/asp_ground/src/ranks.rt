@@ -3,11 +3,11 @@ ghost use Rattle.std.specs.Prelude.{◌≡◌, map};
 ghost use Rattle.asp_defs.specs.Constants.{const_cmp};
 ghost use Rattle.asp_defs.specs.Bases.{predicate_cmp};
 ghost use Rattle.asp_atoms.specs.Ascending.{Ascends};
-ghost use Rattle.asp_atoms.specs.Keys.{const_of};
+ghost use Rattle.asp_atoms.specs.ConstRefs.{const_of};
 ghost use Rattle.asp_atoms.specs.Vocabularies.{unnumbered};
 ghost use Rattle.asp_ground.specs.Ranks.{capped, rank_of, predicate_place, first_of};
 
-use asp_atoms::{Key, NumberedPredicate, place_of};
+use asp_atoms::{ConstRef, NumberedPredicate, place_of};
 use asp_defs::Const;
 use std::cmp::Ordering;
 
@@ -19,11 +19,11 @@ pub fn capped(number: usize) -> u32
 }
 
 /// The rank of a constant.
-pub fn rank_of(constants: &[Const], key: Key<'_>) -> u32
+pub fn rank_of(constants: &[Const], constant: ConstRef<'_>) -> u32
     requires { Ascends const_cmp constants.now }
-    ensures { result ≡ rank_of constants.now (const_of key.entry) }
+    ensures { result ≡ rank_of constants.now (const_of constant.entry) }
 {
-    capped(place_of(constants, key))
+    capped(place_of(constants, constant))
 }
 
 /// How a numbered predicate compares with another.

@@ -113,7 +113,7 @@ fn add_rule(
     let body = rule.body.as_slice();
     match &rule.head {
         Head::Disj(atoms) => add_disjunction(alloc, out, vocabulary, ranks, atoms.as_slice(), body),
-        Head::Choice(elements) => {
+        Head::Choice(_, elements, _) => {
             add_elements(alloc, out, vocabulary, ranks, elements.as_slice(), body)
         }
     }
@@ -130,21 +130,39 @@ pub fn universe_of(universes: &[List<u32>], level: usize) -> &[u32]
     }
 }
 
-/// The instances of the rules of a level.
+/// Adds the instances of rules.
+fn add_rules(
+    alloc: Global,
+    out: &mut List<GroundRule>,
+    vocabulary: &Vocabulary,
+    ranks: &[u32],
+    rules: &[Rule],
+) -> Result<(), NoMemory>
+    requires { IsOrdered vocabulary.now }
+    ensures { OnOk result (out.new ≡ out.old ++ flat_map (compiled_instances vocabulary.now ranks.now) rules.now) }
+{
+    for rule in rules {
+        add_rule(alloc, out, vocabulary, ranks, rule)?;
+    }
+    Ok(())
+}
+
+/// The instances of the rules of a level, and behind them those of its consistency constraints.
 pub fn level_rules(
     alloc: Global,
     vocabulary: &Vocabulary,
     level: usize,
     rules: &[Rule],
+    constraints: &[Rule],
 ) -> Result<List<GroundRule>, NoMemory>
     requires { IsOrdered vocabulary.now }
     ensures { IfOk result (λ instances. instances
-        ≡ flat_map (compiled_instances vocabulary.now (get_or vocabulary.now.universes level [])) rules.now) }
+        ≡ flat_map (compiled_instances vocabulary.now (get_or vocabulary.now.universes level []))
+        (rules.now ++ constraints.now)) }
 {
     let ranks = universe_of(vocabulary.universes.as_slice(), level);
     let mut out = List::new(alloc);
-    for rule in rules {
-        add_rule(alloc, &mut out, vocabulary, ranks, rule)?;
-    }
+    add_rules(alloc, &mut out, vocabulary, ranks, rules)?;
+    add_rules(alloc, &mut out, vocabulary, ranks, constraints)?;
     Ok(out)
 }

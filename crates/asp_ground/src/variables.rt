@@ -6,6 +6,7 @@ ghost use Rattle.asp_defs.specs.Instances.{same_variable, term_variables};
 ghost use Rattle.asp_defs.specs.Safety.{is_variable_of};
 ghost use Rattle.asp_check.specs.Variables.{term_of};
 ghost use Rattle.asp_ground.specs.Variables.{with_variable, disjunctive_variables, element_variables};
+ghost use Rattle.asp_ground.specs.BoundTemplates.{found_variables};
 
 use arrayvec::ArrayVec;
 use asp_check::{Variable, variable_of};
@@ -91,5 +92,15 @@ pub fn element_variables<'a>(body: &'a [Literal], element: &'a Element) -> Varia
     let mut found = Variables::new();
     add_terms(&mut found, Terms::of_element(element));
     add_terms(&mut found, Terms::of_literals(body));
+    found
+}
+
+/// The variables of a body and of an element: those of the body come first.
+pub fn bound_variables<'a>(body: &'a [Literal], element: &'a Element) -> Variables<'a>
+    ensures { map term_of result.items ≡ found_variables body.now element.now }
+{
+    let mut found = Variables::new();
+    add_terms(&mut found, Terms::of_literals(body));
+    add_terms(&mut found, Terms::of_element(element));
     found
 }

@@ -1,5 +1,5 @@
 use Rattle.std.proofs.Common.{◌<◌, ◌+◌, ◌^◌, get_or, arith}
-use Rattle.asp_check.proofs.Steps.{get_is_in}
+use Rattle.asp_walk.proofs.Lists.{get_is_in}
 use Rattle.asp_atoms.proofs.members.add_shifted.Goals as goal
 
 pub overflow_add-distance : goal.overflow_add-distance

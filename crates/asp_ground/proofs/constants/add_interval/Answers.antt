@@ -5,8 +5,8 @@ use mir.Val.{of_z, to_z}
 use Rattle.asp_defs.specs.declared.ground.Const.{Const}
 use Rattle.asp_defs.specs.declared.ground.Const.TheVariants as const
 use Rattle.asp_defs.specs.Constants.{integers_from, interval, interval_length}
-use Rattle.asp_atoms.specs.declared.keys.Key.{Key}
-use Rattle.asp_atoms.specs.Keys.{const_of}
+use Rattle.asp_atoms.specs.declared.const_refs.ConstRef.{ConstRef}
+use Rattle.asp_atoms.specs.ConstRefs.{const_of}
 use Rattle.asp_ground.specs.Gaps.{HasAll}
 use Rattle.asp_ground.specs.Counts.{Gathers}
 use Rattle.asp_ground.proofs.Integers.{passed, told_both}
@@ -32,5 +32,5 @@ returns c =
 pub returns-then-has_interval : goal.returns-then-has_interval
 returns-then-has_interval c =
     all_there (map const_of c.args.found.now.items) (map const.Int (interval c.args.low c.args.high)) c.requires
-    (subst (λ (keys : List Key). HasAll (map const_of keys) (map const.Int (interval c.args.low c.args.high))) c.as_slice.ensures.value
+    (subst (λ (refs : List ConstRef). HasAll (map const_of refs) (map const.Int (interval c.args.low c.args.high))) c.as_slice.ensures.value
     (told_both (λ (x y : ℤ). HasAll (map const_of c.as_slice.result.now) (map const.Int (interval x y))) c.args.low c.args.high c.ranges.low c.ranges.high (c.has_interval.ensures c.if-has_interval.true)))

@@ -1,7 +1,7 @@
 use Rattle.std.proofs.Common.{map}
 use Rattle.asp_defs.specs.declared.ground.Const.TheVariants as const
 use Rattle.asp_defs.specs.Constants.{integers_from}
-use Rattle.asp_atoms.specs.Keys.{const_of}
+use Rattle.asp_atoms.specs.ConstRefs.{const_of}
 use Rattle.asp_ground.specs.Counts.{Gathers}
 use Rattle.asp_ground.proofs.constants.add_interval.Given as goal
 

@@ -2,7 +2,7 @@ use Rattle.std.proofs.Common.{◌≡◌, map}
 use Rattle.std.specs.List.{flat_map, fold}
 use Rattle.asp_defs.specs.Constants.{const_cmp, term_constants, rule_constants}
 use Rattle.asp_atoms.specs.Ascending.{Ascends}
-use Rattle.asp_atoms.specs.Keys.{const_of}
+use Rattle.asp_atoms.specs.ConstRefs.{const_of}
 use Rattle.asp_ground.specs.Counts.{with_constant}
 use Rattle.asp_ground.proofs.constants.add_rule.Given as goal
 

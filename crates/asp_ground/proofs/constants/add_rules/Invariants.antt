@@ -1,7 +1,7 @@
 use Rattle.std.proofs.Common.{map, take}
 use Rattle.std.specs.List.{flat_map}
 use Rattle.asp_defs.specs.Constants.{rule_constants}
-use Rattle.asp_atoms.specs.Keys.{const_of}
+use Rattle.asp_atoms.specs.ConstRefs.{const_of}
 use Rattle.asp_ground.specs.Counts.{Gathers}
 use Rattle.asp_ground.proofs.constants.add_rules.Given as goal
 

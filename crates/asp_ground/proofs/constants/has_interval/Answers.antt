@@ -1,6 +1,6 @@
 use Rattle.std.proofs.Common.{ℤ, ◌≡◌, ◌+◌, ◌-◌, ◌∙◌, sym, map, arith}
 use Rattle.asp_defs.specs.Constants.{interval_length}
-use Rattle.asp_atoms.specs.Keys.{const_of}
+use Rattle.asp_atoms.specs.ConstRefs.{const_of}
 use Rattle.asp_ground.specs.Gaps.{IsIntegerAt}
 use Rattle.asp_ground.proofs.Integers.{told, told_both}
 use Rattle.asp_ground.proofs.Rows.{interval_there, nothing_there}

@@ -6,9 +6,9 @@ use Rattle.asp_defs.specs.declared.syntax.Part.{Part}
 use Rattle.asp_defs.specs.declared.syntax.Rule.{Rule}
 use Rattle.asp_defs.specs.declared.syntax.Program.{Program}
 use Rattle.asp_defs.specs.Constants.{const_cmp, rule_constants, level_rules}
-use Rattle.asp_atoms.specs.declared.keys.Key.{Key}
+use Rattle.asp_atoms.specs.declared.const_refs.ConstRef.{ConstRef}
 use Rattle.asp_atoms.specs.Ascending.{Ascends}
-use Rattle.asp_atoms.specs.Keys.{const_of}
+use Rattle.asp_atoms.specs.ConstRefs.{const_of}
 use Rattle.asp_atoms.specs.Counts.{shown}
 use Rattle.asp_ground.specs.Counts.{with_constant, rule_count, counted_from}
 use Rattle.asp_ground.proofs.Counted.{total_counted}
@@ -29,16 +29,16 @@ step count next part size found now rules more added same e f =
     counted count next part (sum_by (rule_count (length now)) rules) (counted_from now more) (e ∙ ap (λ (n : ℕ). shown (sum_by (rule_count n) rules)) same) f
     ∙ ap (λ (cs : List Const). shown (count + (sum_by (rule_count (length cs)) rules + counted_from cs more))) added
 
-sized : (keys : List Key) (n : ℕ) → n ≡ length keys → n ≡ length (map const_of keys)
-sized keys n e = e ∙ sym (length-map keys const_of)
+sized : (refs : List ConstRef) (n : ℕ) → n ≡ length refs → n ≡ length (map const_of refs)
+sized refs n e = e ∙ sym (length-map refs const_of)
 
 pub add_rules-requires : goal.add_rules-requires
 add_rules-requires c = c.loop-level.invariant.0
 
 pub loop-level-init : goal.loop-level-init
 loop-level-init c = (
-  subst (λ (keys : List Key). Ascends const_cmp (map const_of keys)) (sym c.new-found.ensures) nothing_ascends,
-  ap (λ (keys : List Key). shown (0 + counted_from (map const_of keys) (rules_of c.as_slice-levels.result.now ++ c.program-program.result.now.cons ∷ []))) c.new-found.ensures
+  subst (λ (refs : List ConstRef). Ascends const_cmp (map const_of refs)) (sym c.new-found.ensures) nothing_ascends,
+  ap (λ (refs : List ConstRef). shown (0 + counted_from (map const_of refs) (rules_of c.as_slice-levels.result.now ++ c.program-program.result.now.cons ∷ []))) c.new-found.ensures
       ∙ (ap shown (zero-add (counted_from [] (rules_of c.as_slice-levels.result.now ++ c.program-program.result.now.cons ∷ [])))
       ∙ ap (λ (levels : List Part). shown (counted_from [] (rules_of levels ++ c.program-program.result.now.cons ∷ []))) c.as_slice-levels.ensures),
 )

@@ -2,7 +2,7 @@ use Rattle.std.proofs.Common.{◌≡◌, ◌+◌, [], ◌∷◌, ◌++◌, map, 
 use Rattle.asp_defs.specs.declared.syntax.Part.{Part}
 use Rattle.asp_defs.specs.Constants.{const_cmp, level_rules}
 use Rattle.asp_atoms.specs.Ascending.{Ascends}
-use Rattle.asp_atoms.specs.Keys.{const_of}
+use Rattle.asp_atoms.specs.ConstRefs.{const_of}
 use Rattle.asp_atoms.specs.Counts.{shown}
 use Rattle.asp_ground.specs.Counts.{counted_from}
 use Rattle.asp_ground.proofs.counts.count.Given as goal

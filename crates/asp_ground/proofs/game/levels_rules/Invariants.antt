@@ -6,4 +6,4 @@ use Rattle.asp_ground.proofs.game.levels_rules.Given as goal
 
 abbrev pub invariant-loop-place : goal.invariant-loop-place
 invariant-loop-place l =
-    l.rules.items ≡ map (level_instances l.vocabulary) (enumerate_from 1 (map (λ (part : Part). part.rules) (take l.place l.levels)))
+    l.rules.items ≡ map (level_instances l.vocabulary l.program) (enumerate_from 1 (map (λ (part : Part). part.rules) (take l.place l.levels)))

@@ -23,10 +23,10 @@ returns-in-Disj c =
 pub returns-in-Choice : goal.returns-in-Choice
 returns-in-Choice c =
     IfOk-equal c.add_elements.result c.add_elements.new.out
-    (c.args.out.now ++ head_instances c.args.vocabulary.now c.args.ranks.now (Choice c.as_slice-in-Choice.result.now) c.as_slice-body.result.now)
+    (c.args.out.now ++ head_instances c.args.vocabulary.now c.args.ranks.now (Choice c.in-Choice.field-0 c.as_slice-in-Choice.result.now c.in-Choice.field-2) c.as_slice-body.result.now)
     (c.args.out.now ++ compiled_instances c.args.vocabulary.now c.args.ranks.now c.args.rule.now)
     c.add_elements.ensures
     (ap (λ (rs : List GroundRule). c.args.out.now ++ rs)
-    (ap (λ (elements : List Element). head_instances c.args.vocabulary.now c.args.ranks.now (Choice elements) c.as_slice-body.result.now) c.as_slice-in-Choice.ensures
-    ∙ (ap (λ (body : List Literal). head_instances c.args.vocabulary.now c.args.ranks.now (Choice c.in-Choice.elements) body) c.as_slice-body.ensures
+    (ap (λ (elements : List Element). head_instances c.args.vocabulary.now c.args.ranks.now (Choice c.in-Choice.field-0 elements c.in-Choice.field-2) c.as_slice-body.result.now) c.as_slice-in-Choice.ensures
+    ∙ (ap (λ (body : List Literal). head_instances c.args.vocabulary.now c.args.ranks.now (Choice c.in-Choice.field-0 c.in-Choice.elements c.in-Choice.field-2) body) c.as_slice-body.ensures
     ∙ ap (λ (head : Head). head_instances c.args.vocabulary.now c.args.ranks.now head c.args.rule.now.body) (sym c.in-Choice.is))))

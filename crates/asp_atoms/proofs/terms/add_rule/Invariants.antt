@@ -1,6 +1,6 @@
 use Rattle.std.proofs.Common.{◌≡◌, ◌++◌, map}
 use Rattle.asp_walk.specs.Written.{rule_terms}
-use Rattle.asp_atoms.proofs.written.add_rule.Given as goal
+use Rattle.asp_atoms.proofs.terms.add_rule.Given as goal
 
 abbrev pub invariant-loop-term : goal.invariant-loop-term
 invariant-loop-term l =

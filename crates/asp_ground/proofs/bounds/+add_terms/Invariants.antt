@@ -1,0 +1,14 @@
+use Rattle.std.proofs.Common.{◌≡◌, ◌+◌, ◌-◌, ◌++◌, [], ◌∷◌, take, drop, length}
+use Rattle.std.specs.List.{flat_map}
+use Rattle.asp_defs.specs.Bases.{product}
+use Rattle.asp_ground.specs.Domains.{domains_of}
+use Rattle.asp_ground.specs.BoundTemplates.{term_at}
+use Rattle.asp_ground.proofs.bounds.+add_terms.Given as goal
+
+abbrev pub decreases-add_terms : goal.decreases-add_terms
+decreases-add_terms l = length (domains_of l.domains) - l.given
+
+abbrev pub invariant-loop-rank : goal.invariant-loop-rank
+invariant-loop-rank l =
+    (l.out ≡ l.fn.out ++ flat_map (λ rank. flat_map (λ rest. term_at l.size l.element ((take l.given l.fn.ranks ++ rank ∷ []) ++ rest)) (product (drop (l.given + 1) (domains_of l.domains)))) (take l.rank-index l.domain))
+    × (take l.given l.ranks ≡ take l.given l.fn.ranks)

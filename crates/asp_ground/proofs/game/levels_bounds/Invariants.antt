@@ -1,0 +1,9 @@
+use Rattle.std.proofs.Common.{◌≡◌, map, take}
+use Rattle.std.specs.List.{enumerate_from}
+use Rattle.asp_defs.specs.declared.syntax.Part.{Part}
+use Rattle.asp_ground.specs.BoundTemplates.{level_bounds_by}
+use Rattle.asp_ground.proofs.game.levels_bounds.Given as goal
+
+abbrev pub invariant-loop-place : goal.invariant-loop-place
+invariant-loop-place l =
+    l.bounds.items ≡ map (level_bounds_by l.vocabulary) (enumerate_from 1 (map (λ (part : Part). part.rules) (take l.place l.levels)))
