@@ -20,7 +20,7 @@ same_test true false f g = sym (f refl)
 same_test false true f g = g refl
 same_test false false f g = refl
 
-or_assoc : (p q r : Bool) → ((p || q) || r) ≡ (p || (q || r))
+pub or_assoc : (p q r : Bool) → ((p || q) || r) ≡ (p || (q || r))
 or_assoc true q r = refl
 or_assoc false q r = refl
 
@@ -97,7 +97,7 @@ bit-rest s m a part =
     and_true false = refl
 
 -- one atom more
-bit-with_atom : (mask b a : ℕ) → bit (with_atom mask b) a ≡ (bit mask a || eqb b a)
+pub bit-with_atom : (mask b a : ℕ) → bit (with_atom mask b) a ≡ (bit mask a || eqb b a)
 bit-with_atom mask b a =
     elim (cases_eq b a) [
       | inl same ↦

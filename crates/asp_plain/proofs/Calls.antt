@@ -1,4 +1,4 @@
--- The masks that `strike` is called with once an atom is decided.
+-- The masks that `remove_non_minimal` is called with once an atom is decided.
 use Rattle.std.proofs.Common.{◌≡◌, ◌≤◌, ℕ, Bool, true, false, not, ◌&&◌, ◌||◌, refl, sym, ap, ◌∙◌, subst, inl, inr, arith}
 use Rattle.std.specs.Int.{bit_at}
 use Rattle.std.specs.Int.RustNames.{bit_and, bit_or, bit_xor}

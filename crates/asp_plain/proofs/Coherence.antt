@@ -40,9 +40,9 @@ HasBases-valid g valid = record {
 }
 
 moves_are : (g : Game) (j : ℕ) (M : List ℕ)
-    → moves g (j + 1) M ≡ answer_sets (get_or g.rules j [] ++ fix (base g j) M) (base g (j + 1))
+    → moves g (j + 1) M ≡ answer_sets (get_or g.rules j [] ++ fix (base g j) M) (get_or g.bounds j []) (base g (j + 1))
 moves_are g j M =
-    ap (λ k. answer_sets (get_or g.rules k [] ++ fix (base g k) M) (base g (j + 1))) (let e : j + 1 - 1 ≡ j = omega arith in e)
+    ap (λ k. answer_sets (get_or g.rules k [] ++ fix (base g k) M) (get_or g.bounds k []) (base g (j + 1))) (let e : j + 1 - 1 ≡ j = omega arith in e)
 
 module _ (g : Game) (bases : HasBases g) where
   -- the value of a mask is that of the set that it stands for
@@ -51,17 +51,17 @@ module _ (g : Game) (bases : HasBases g) where
       → (M : List ℕ) (m : ℕ) → Stands (base g j) M m → masked_value quants levels m ≡ value_from g quants (j + 1) M
   value-same quants j [] masked same few M m stands = absurd (omega arith)
   value-same [] j (level ∷ levels) masked same few M m stands =
-      some_move (get_or g.rules j []) level (base g j) (base g (j + 1)) M m masked.0 stands
+      some_move (get_or g.rules j []) (get_or g.bounds j []) level (base g j) (base g (j + 1)) M m masked.0 stands
       (bases.ascending (j + 1) (omega arith)) (λ a. bases.nested j a (omega arith))
       ∙ ap (λ sets. not (is_empty sets)) (sym (moves_are g j M))
   value-same (Exists ∷ quants) j (level ∷ levels) masked same few M m stands =
-      any_move (get_or g.rules j []) level (base g j) (base g (j + 1)) M m masked.0 stands
+      any_move (get_or g.rules j []) (get_or g.bounds j []) level (base g j) (base g (j + 1)) M m masked.0 stands
       (bases.ascending (j + 1) (omega arith)) (λ a. bases.nested j a (omega arith))
       (masked_value quants levels) (value_from g quants (j + 1 + 1))
       (λ J s next. value-same quants (j + 1) levels masked.1 (omega arith) (omega arith) J s next)
       ∙ ap (list_any (value_from g quants (j + 1 + 1))) (sym (moves_are g j M))
   value-same (Forall ∷ quants) j (level ∷ levels) masked same few M m stands =
-      all_moves (get_or g.rules j []) level (base g j) (base g (j + 1)) M m masked.0 stands
+      all_moves (get_or g.rules j []) (get_or g.bounds j []) level (base g j) (base g (j + 1)) M m masked.0 stands
       (bases.ascending (j + 1) (omega arith)) (λ a. bases.nested j a (omega arith))
       (masked_value quants levels) (value_from g quants (j + 1 + 1))
       (λ J s next. value-same quants (j + 1) levels masked.1 (omega arith) (omega arith) J s next)

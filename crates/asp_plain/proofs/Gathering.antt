@@ -7,6 +7,7 @@ use Rattle.std.proofs.lemmas.List.{append-nil, map-append, get_or_read}
 use Rattle.std.proofs.lemmas.List.Elements.{filter_more}
 use Rattle.asp_defs.specs.declared.ground.Game.{Game}
 use Rattle.asp_defs.specs.declared.ground.GroundRule.{GroundRule}
+use Rattle.asp_defs.specs.declared.ground.Bound.{Bound}
 use Rattle.asp_defs.specs.Games.{base}
 use Rattle.asp_defs.specs.Interpretations.{holds}
 use Rattle.asp_plain.specs.declared.masks.Level.{Level}
@@ -46,10 +47,10 @@ module _ (lower base : List ℕ) (i taken bit : ℕ) (l : i < length base) (is_t
 
 -- one level more
 pub AreMasked-push : (g : Game) (below : ℕ) (levels : List Level) (level : Level) (k : ℕ) → below + length levels ≡ k
-    → AreMasked g below levels → IsMasked (base g k) (base g (k + 1)) (get_or g.rules k []) level
+    → AreMasked g below levels → IsMasked (base g k) (base g (k + 1)) (get_or g.rules k []) (get_or g.bounds k []) level
     → AreMasked g below (levels ++ level ∷ [])
 AreMasked-push g below [] level k at masked more =
-    (subst (λ n. IsMasked (base g n) (base g (n + 1)) (get_or g.rules n []) level) (let e : k ≡ below = omega arith in e) more, tt)
+    (subst (λ n. IsMasked (base g n) (base g (n + 1)) (get_or g.rules n []) (get_or g.bounds n []) level) (let e : k ≡ below = omega arith in e) more, tt)
 AreMasked-push g below (first ∷ levels) level k at masked more =
     (masked.0, AreMasked-push g (below + 1) levels level k (omega arith) masked.1 more)
 
@@ -60,8 +61,10 @@ read-at all own k item slice same l read is =
     is ∙ get_or_read all k item l read [] ∙ ap (λ xs. get_or xs k []) same
 
 -- a level over equal lists
-pub IsMasked-same : (lower lower' base base' : List ℕ) (rules rules' : List GroundRule) (level : Level) → lower ≡ lower'
-    → base ≡ base' → rules ≡ rules' → IsMasked lower base rules level → IsMasked lower' base' rules' level
-IsMasked-same lower lower' base base' rules rules' level at_lower at_base at_rules masked =
-    subst (λ xs. IsMasked xs base' rules' level) at_lower
-    (subst (λ xs. IsMasked lower xs rules' level) at_base (subst (λ rs. IsMasked lower base rs level) at_rules masked))
+pub IsMasked-same : (lower lower' base base' : List ℕ) (rules rules' : List GroundRule) (bounds bounds' : List Bound) (level : Level)
+    → lower ≡ lower' → base ≡ base' → rules ≡ rules' → bounds ≡ bounds' → IsMasked lower base rules bounds level
+    → IsMasked lower' base' rules' bounds' level
+IsMasked-same lower lower' base base' rules rules' bounds bounds' level at_lower at_base at_rules at_bounds masked =
+    subst (λ xs. IsMasked xs base' rules' bounds' level) at_lower
+    (subst (λ xs. IsMasked lower xs rules' bounds' level) at_base
+    (subst (λ rs. IsMasked lower base rs bounds' level) at_rules (subst (λ bs. IsMasked lower base rules bs level) at_bounds masked)))

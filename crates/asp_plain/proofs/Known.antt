@@ -4,6 +4,7 @@ use Rattle.std.specs.List.{list_any, filter, fold}
 use Rattle.std.specs.Int.RustNames.{bit_and}
 use Rattle.std.proofs.lemmas.Bool.{and_parts, or_cases, not-true}
 use Rattle.asp_defs.specs.declared.ground.GroundRule.{GroundRule}
+use Rattle.asp_defs.specs.declared.ground.Bound.{Bound}
 use Rattle.asp_defs.specs.Lists.{IsIn, numbers_from}
 use Rattle.asp_defs.specs.Interpretations.{holds, subsets}
 use Rattle.asp_defs.proofs.Lists.{map_at}
@@ -11,6 +12,7 @@ use Rattle.asp_defs.proofs.Subsets.{subset-holds}
 use Rattle.asp_plain.specs.declared.masks.MaskedRule.{MaskedRule}
 use Rattle.asp_plain.specs.declared.masks.Level.{Level}
 use Rattle.asp_plain.specs.Masks.{mask_of, with_atom, masked, HaveSameMembers, candidates, satisfies_part, is_model_of_reduct, is_model_between, has_smaller_model, is_answer}
+use Rattle.asp_plain.specs.MaskedBounds.{masked_bound, is_bounded_answer}
 use Rattle.asp_plain.specs.Levels.{IsMasked, has_answer}
 use Rattle.asp_plain.proofs.Atoms.{bit, same_masks, bit-and, bit-fold, bit-mask_of, covers}
 use Rattle.asp_plain.proofs.Repeated.{all-members}
@@ -42,13 +44,13 @@ only_outer false true l f g = g refl
 only_outer false false l f g = refl
 
 -- a masked level over a base and a lower base, and an outer move M of the lower base
-module _ (G : List GroundRule) (level : Level) (lower base M : List ℕ) (m : ℕ) (over : IsMasked lower base G level)
+module _ (G : List GroundRule) (bounds : List Bound) (level : Level) (lower base M : List ℕ) (m : ℕ) (over : IsMasked lower base G bounds level)
     (outer : Stands lower M m) (nested : (a : ℕ) → holds lower a ≡ true → holds base a ≡ true) where
   abbrev own : List ℕ
   own = filter (λ a. not (holds lower a)) base
 
   -- the table says of a candidate whether it is an answer set with the outer move fixed
-  pub told : (s : ℕ) → IsIn s (candidates m level.own) → has_answer level s ≡ is_answer (map masked G) m s
+  pub told : (s : ℕ) → IsIn s (candidates m level.own) → has_answer level s ≡ is_bounded_answer (map masked G) (map masked_bound bounds) m s
   told s i =
       let w = map_at (fold with_atom m) (subsets own) s
       (subst (IsIn s) (ap (candidates m) over.own ∙ candidates-atoms m own) i) in
@@ -70,4 +72,4 @@ module _ (G : List GroundRule) (level : Level) (lower base M : List ℕ) (m : �
       ∙ (ap (λ t. t && holds lower a) (bits a)
       ∙ only_outer (bit m a) (holds w.0 a) (holds lower a) (λ e. stands-within lower M m a outer e)
       (λ e. not-true (holds lower a) ((own_at a e).1))))) in
-      over.answers s inside ∙ ap (λ o. is_answer (map masked G) o s) reached
+      over.answers s inside ∙ ap (λ o. is_bounded_answer (map masked G) (map masked_bound bounds) o s) reached

@@ -1,11 +1,13 @@
+pub mod Ascending
 pub mod Atoms
 pub mod Beaten
 pub mod Beside
 pub mod Between
-pub mod Bounds
+pub mod AtomsBelow
 pub mod Calls
 pub mod Claims
 pub mod Coherence
+pub mod Counted
 pub mod Cubes
 pub mod Fixing
 pub mod Gathering
@@ -18,5 +20,5 @@ pub mod Models
 pub mod Moves
 pub mod Repeated
 pub mod Standing
-pub mod Striking
+pub mod Removing
 pub mod Tables

@@ -1,72 +1,36 @@
 -- The quantified answer sets, by masks and by lists.
-use Rattle.std.proofs.Common.{◌≡◌, ◌+◌, ◌<◌, ◌≤◌, ◌^◌, ℕ, suc, Bool, true, false, not, ◌&&◌, cond, eqb, List, [], ◌∷◌, ◌++◌, length, get_or, map, drop, refl, sym, ap, ◌∙◌, subst, inl, inr, arith}
+use Rattle.std.proofs.Common.{◌≡◌, ◌+◌, ◌<◌, ◌^◌, ℕ, Bool, true, false, not, ◌&&◌, cond, eqb, List, [], ◌∷◌, ◌++◌, length, get_or, map, drop, refl, sym, ap, ◌∙◌, subst, inl, inr, arith}
 use Rattle.std.specs.Prelude.{All}
 use Rattle.std.specs.List.{list_all, filter}
 use Rattle.std.specs.Int.{bit_at}
-use Rattle.std.proofs.lemmas.Bool.{lt-ltb, cases_lt, cases_order, both_ways, eq-eqb, eqb-true, or_left, or_right, or_cases, false_from_ne_true}
+use Rattle.std.proofs.lemmas.Bool.{cases_lt, both_ways, false_from_ne_true}
 use Rattle.std.proofs.lemmas.Nat.Bits.{bit_at-zero}
 use Rattle.std.proofs.lemmas.List.{get_or_past, length-drop}
 use Rattle.std.proofs.lemmas.List.Elements.{All-map}
 use Rattle.std.proofs.lemmas.List.FromFn.{length-map-range_with_len, get_or-map-range_with_len}
-use Rattle.asp_bits.specs.Places.{true_from, true_places}
+use Rattle.asp_bits.specs.Places.{true_places}
 use Rattle.asp_reduct.proofs.Truths.{holds-true_places, ascends-true_from}
 use Rattle.asp_defs.specs.declared.ground.Game.{Game}
 use Rattle.asp_defs.specs.declared.syntax.Quant.{Quant}
 use Rattle.asp_defs.specs.Lists.{IsIn}
 use Rattle.asp_defs.specs.Interpretations.{holds, subsets}
-use Rattle.asp_defs.specs.AnswerSets.{is_answer_set, answer_sets}
-use Rattle.asp_defs.specs.Games.{base, rules_of, ascends, IsValid}
+use Rattle.asp_defs.specs.AnswerSets.{is_bounded_answer_set, answer_sets}
+use Rattle.asp_defs.specs.Games.{base, rules_of, bounds_of, ascends, IsValid}
 use Rattle.asp_defs.specs.Values.{fix, moves, value_from, value, quantified_answer_sets}
 use Rattle.asp_defs.proofs.Lists.{filter_at, map_from}
-use Rattle.asp_defs.proofs.Subsets.{holds_at, subset-holds, ascends-tail, ascends-member}
+use Rattle.asp_defs.proofs.Subsets.{subset-holds}
 use Rattle.asp_plain.specs.declared.masks.Level.{Level}
 use Rattle.asp_plain.specs.Masks.{mask_of, own_bits, candidates}
 use Rattle.asp_plain.specs.Levels.{AreMasked, first_own, masked_value, is_won}
 use Rattle.asp_plain.specs.Sets.{values_of}
-use Rattle.asp_plain.proofs.Atoms.{bit, same_test, bit-mask_of}
-use Rattle.asp_plain.proofs.Bounds.{atom-below}
+use Rattle.asp_plain.proofs.Ascending.{same_ascending}
+use Rattle.asp_plain.proofs.Atoms.{bit, bit-mask_of}
+use Rattle.asp_plain.proofs.AtomsBelow.{atom-below}
 use Rattle.asp_plain.proofs.Coherence.{HasBases-valid, value-same, stands-nothing}
 use Rattle.asp_plain.proofs.Known.{told}
-use Rattle.asp_plain.proofs.Minimal.{answer-same}
+use Rattle.asp_plain.proofs.Minimal.{bounded-same}
 use Rattle.asp_plain.proofs.Moves.{subset-ascends}
 use Rattle.asp_plain.proofs.Standing.{map-map, Stands, stands-mask_of, candidates-atoms}
-
--- ---- ascending lists
-
--- two ascending lists with the same members are the same
-pub same_ascending : (I J : List ℕ) → ascends I ≡ true → ascends J ≡ true → ((a : ℕ) → holds I a ≡ holds J a) → I ≡ J
-same_ascending [] [] up down same = refl
-same_ascending [] (b ∷ J) up down same = absurd (both_ways (holds [] b) refl (same b ∙ or_left (eqb b b) (holds J b) (eq-eqb b b refl)))
-same_ascending (a ∷ I) [] up down same =
-    absurd (both_ways (holds [] a) refl (sym (same a) ∙ or_left (eqb a a) (holds I a) (eq-eqb a a refl)))
-same_ascending (a ∷ I) (b ∷ J) up down same = elim (cases_order a b) [
-  | inl equal ↦
-      ap (λ x. x ∷ I) equal
-      ∙ ap (λ K. b ∷ K) (same_ascending I J (ascends-tail a I up) (ascends-tail b J down) (λ x.
-      same_test (holds I x) (holds J x)
-      (λ h.
-      let above : a < x = ascends-member a I x up (holds_at I x h) in
-      elim (or_cases (eqb b x) (holds J x) (sym (same x) ∙ or_right (eqb a x) (holds I x) h)) [
-        | inl e ↦ let here : b ≡ x = eqb-true b x e in absurd (omega arith)
-        | inr e ↦ e
-      ])
-      (λ h.
-      let above : b < x = ascends-member b J x down (holds_at J x h) in
-      elim (or_cases (eqb a x) (holds I x) (same x ∙ or_right (eqb b x) (holds J x) h)) [
-        | inl e ↦ let here : a ≡ x = eqb-true a x e in absurd (omega arith)
-        | inr e ↦ e
-      ])))
-  | inr (inl less) ↦
-      elim (or_cases (eqb b a) (holds J a) (sym (same a) ∙ or_left (eqb a a) (holds I a) (eq-eqb a a refl))) [
-        | inl e ↦ let here : b ≡ a = eqb-true b a e in absurd (omega arith)
-        | inr e ↦ let above : b < a = ascends-member b J a down (holds_at J a e) in absurd (omega arith)
-      ]
-  | inr (inr more) ↦
-      elim (or_cases (eqb a b) (holds I b) (same b ∙ or_left (eqb b b) (holds J b) (eq-eqb b b refl))) [
-        | inl e ↦ let here : a ≡ b = eqb-true a b e in absurd (omega arith)
-        | inr e ↦ let above : a < b = ascends-member a I b up (holds_at I b e) in absurd (omega arith)
-      ]
-]
 
 -- the interpretation of a subset's mask is the subset
 restored : (count : ℕ) (B J : List ℕ) → ascends B ≡ true → ((a : ℕ) → holds B a ≡ true → a < count) → IsIn J (subsets B)
@@ -144,33 +108,33 @@ module _ (g : Game) (quants : List Quant) (level : Level) (levels : List Level) 
   -- a subset's mask is won where the subset is an answer set with the value true behind
   won-same : (J : List ℕ) → IsIn J (subsets B)
       → is_won quants (level ∷ levels) (mask_of J)
-      ≡ (is_answer_set (get_or g.rules 0 [] ++ fix (base g 0) []) J && value_from g quants (0 + 1 + 1) J)
+      ≡ (is_bounded_answer_set (get_or g.rules 0 [] ++ fix (base g 0) []) (get_or g.bounds 0 []) J && value_from g quants (0 + 1 + 1) J)
   won-same J i =
       let bases = HasBases-valid g valid in
       let stands : Stands B J (mask_of J) = stands-mask_of B J i in
       ap (λ t. t && masked_value quants levels (mask_of J))
-      (told (get_or g.rules 0 []) level (base g 0) B [] 0 masked.0 (stands-nothing (base g 0) valid.first_base)
+      (told (get_or g.rules 0 []) (get_or g.bounds 0 []) level (base g 0) B [] 0 masked.0 (stands-nothing (base g 0) valid.first_base)
       (λ a. bases.nested 0 a (omega arith)) (mask_of J)
       (subst (IsIn (mask_of J)) (sym first-candidates) (map_from mask_of (subsets B) J i))
-      ∙ answer-same (get_or g.rules 0 []) (base g 0) B [] J 0 (mask_of J)
+      ∙ bounded-same (get_or g.rules 0 []) (base g 0) B [] J 0 (mask_of J)
       (stands-nothing (base g 0) valid.first_base) stands
       (subset-ascends B J (bases.ascending 1 (omega arith)) i)
       (λ a h. absurd (both_ways (bit 0 a) (ap (λ t. eqb t 1) (bit_at-zero a)) h))
-      (ap (λ (C : List ℕ). list_all (λ a. not (holds J a)) (filter (λ a. not (holds [] a)) C)) valid.first_base))
-      ∙ ap (λ t. is_answer_set (get_or g.rules 0 [] ++ fix (base g 0) []) J && t)
+      (ap (λ (C : List ℕ). list_all (λ a. not (holds J a)) (filter (λ a. not (holds [] a)) C)) valid.first_base) (get_or g.bounds 0 []))
+      ∙ ap (λ t. is_bounded_answer_set (get_or g.rules 0 [] ++ fix (base g 0) []) (get_or g.bounds 0 []) J && t)
       (value-same g bases quants 1 levels masked.1 same (omega arith) J (mask_of J) stands)
 
   -- the won masks are those of the answer sets with the value true behind
   pub won-masks : filter (is_won quants (level ∷ levels)) (candidates 0 level.own)
-      ≡ map mask_of (filter (value_from g quants (0 + 1 + 1)) (answer_sets (get_or g.rules 0 [] ++ fix (base g 0) []) B))
+      ≡ map mask_of (filter (value_from g quants (0 + 1 + 1)) (answer_sets (get_or g.rules 0 [] ++ fix (base g 0) []) (get_or g.bounds 0 []) B))
   won-masks =
       ap (filter (is_won quants (level ∷ levels))) first-candidates
       ∙ filter-map (is_won quants (level ∷ levels)) mask_of (subsets B)
       ∙ ap (map mask_of)
       (filter_members (λ J. is_won quants (level ∷ levels) (mask_of J))
-      (λ J. is_answer_set (get_or g.rules 0 [] ++ fix (base g 0) []) J && value_from g quants (0 + 1 + 1) J)
+      (λ J. is_bounded_answer_set (get_or g.rules 0 [] ++ fix (base g 0) []) (get_or g.bounds 0 []) J && value_from g quants (0 + 1 + 1) J)
       (subsets B) won-same
-      ∙ sym (filter-filter (value_from g quants (0 + 1 + 1)) (is_answer_set (get_or g.rules 0 [] ++ fix (base g 0) [])) (subsets B)))
+      ∙ sym (filter-filter (value_from g quants (0 + 1 + 1)) (is_bounded_answer_set (get_or g.rules 0 [] ++ fix (base g 0) []) (get_or g.bounds 0 [])) (subsets B)))
 
 -- the interpretations of the won masks are the quantified answer sets, in their order
 pub listed : (g : Game) (levels : List Level) (masks : List ℕ) (count : ℕ) → IsValid g → AreMasked g 0 levels
@@ -188,7 +152,7 @@ listed g (level ∷ levels) masks count valid masked same few is =
     ∙ ap (map true_places) (map-map (values_of count) mask_of sets)
     ∙ map-map true_places (λ J. values_of count (mask_of J)) sets
     ∙ map_fixed_members (λ J. true_places (values_of count (mask_of J))) sets (λ J i.
-    let inside = (filter_at (is_answer_set (rules_of g 1 ++ fix (base g 0) [])) (subsets (base g 1)) J
+    let inside = (filter_at (is_bounded_answer_set (rules_of g 1 ++ fix (base g 0) []) (bounds_of g 1)) (subsets (base g 1)) J
     ((filter_at (value g 2) (moves g 1 []) J i).0)).0 in
     restored count (base g 1) J ((HasBases-valid g valid).ascending 1 (omega (arith, valid.base_lists, valid.some_levels)))
     (λ a h. atom-below g valid count (omega arith) 1 a (omega (arith, valid.base_lists, valid.some_levels)) h) inside)

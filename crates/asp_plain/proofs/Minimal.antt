@@ -5,19 +5,22 @@ use Rattle.std.specs.Int.RustNames.{bit_and}
 use Rattle.std.proofs.lemmas.Nat.{and_le_r}
 use Rattle.std.proofs.lemmas.Bool.{eqb-true, eq-eqb, cases_eq, both_ways, and_parts, and_from, not-true, not_from_false, false_from_ne_true}
 use Rattle.asp_defs.specs.declared.ground.GroundRule.{GroundRule}
+use Rattle.asp_defs.specs.declared.ground.Bound.{Bound}
 use Rattle.asp_defs.specs.Lists.{IsIn, numbers_from}
 use Rattle.asp_defs.specs.Interpretations.{holds, subsets, same, proper_subsets}
 use Rattle.asp_defs.specs.Truth.{is_model}
 use Rattle.asp_defs.specs.Reduct.{reduct}
-use Rattle.asp_defs.specs.AnswerSets.{is_answer_set}
+use Rattle.asp_defs.specs.AnswerSets.{is_answer_set, is_bounded_answer_set}
 use Rattle.asp_defs.specs.Values.{fix}
 use Rattle.asp_defs.specs.Games.{ascends}
 use Rattle.asp_defs.proofs.Lists.{all_at, all_from, any_at, any_from, filter_at, filter_from}
 use Rattle.asp_defs.proofs.Subsets.{holds_at, holds_from, subset-holds, subset_full, same_at, same_from}
 use Rattle.asp_plain.specs.declared.masks.MaskedRule.{MaskedRule}
 use Rattle.asp_plain.specs.Masks.{masked, mask_of, is_model_of_reduct, is_model_between, has_smaller_model, is_answer}
+use Rattle.asp_plain.specs.MaskedBounds.{masked_bound, meets_all, is_bounded_answer}
 use Rattle.asp_plain.proofs.Atoms.{bit, same_test, same_masks, all_held, all_to, covers, covers_back}
 use Rattle.asp_plain.proofs.Beside.{Within}
+use Rattle.asp_plain.proofs.Counted.{meets_all-same}
 use Rattle.asp_plain.proofs.Fixing.{is_fixed, false_atoms, model-fixed}
 use Rattle.asp_plain.proofs.Models.{models-same}
 use Rattle.asp_plain.proofs.Standing.{Stands, stands-filter, stands-mask_of}
@@ -129,3 +132,9 @@ module _ (G : List GroundRule) (lower base M J : List ℕ) (m s : ℕ) (outer : 
       let w = found_back e in
       both_ways (is_model w.0 R) (not-true (is_model w.0 R) (all_at (λ K. not (is_model K R)) (proper_subsets J) w.0 h w.1))
       w.2))))
+
+  -- so it is with bounds
+  pub bounded-same : (bounds : List Bound) → is_bounded_answer rules (map masked_bound bounds) m s ≡ is_bounded_answer_set (G ++ fix lower M) bounds J
+  bounded-same bounds =
+      ap (λ t. t && meets_all (map masked_bound bounds) s) answer-same
+      ∙ ap (λ t. is_answer_set (G ++ fix lower M) J && t) (meets_all-same J s set.marks ascending bounds)

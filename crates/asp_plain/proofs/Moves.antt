@@ -1,18 +1,19 @@
 -- The moves of a level, by masks and by lists.
-use Rattle.std.proofs.Common.{◌≡◌, ℕ, Bool, true, false, not, ◌&&◌, ◌||◌, nat_lt, List, [], ◌∷◌, ◌++◌, map, refl, sym, ap, ◌∙◌, subst, inl, inr}
+use Rattle.std.proofs.Common.{◌≡◌, ℕ, Bool, true, false, not, ◌&&◌, ◌||◌, List, [], ◌∷◌, ◌++◌, map, refl, sym, ap, ◌∙◌, subst, inl, inr}
 use Rattle.std.specs.List.{list_any, list_all, filter, fold}
 use Rattle.std.proofs.lemmas.Bool.{lt-ltb, both_ways, and_parts, and_from, or_cases, or_left, or_right, not-true, not_from_false, false_from_ne_true, cases_Bool}
 use Rattle.asp_defs.specs.declared.ground.GroundRule.{GroundRule}
+use Rattle.asp_defs.specs.declared.ground.Bound.{Bound}
 use Rattle.asp_defs.specs.Lists.{IsIn, is_empty}
 use Rattle.asp_defs.specs.Interpretations.{holds, subsets}
 use Rattle.asp_defs.specs.Truth.{is_model}
 use Rattle.asp_defs.specs.Reduct.{reduct}
-use Rattle.asp_defs.specs.AnswerSets.{is_answer_set, answer_sets}
+use Rattle.asp_defs.specs.AnswerSets.{is_bounded_answer_set, answer_sets}
 use Rattle.asp_defs.specs.Values.{fix}
 use Rattle.asp_defs.specs.Games.{ascends}
 use Rattle.asp_defs.proofs.Lists.{all_at, all_from, any_at, any_from, filter_at, filter_from, map_at, map_from}
 use Rattle.asp_defs.proofs.Subsets.{subset-holds, subset-member, subset_at, filter-subset, ascends-tail, ascends-member}
-use Rattle.asp_defs.proofs.AnswerSetLaws.{answer_set-model}
+use Rattle.asp_defs.proofs.AnswerSetLaws.{answer_set-model, bounded_at}
 use Rattle.asp_reduct.proofs.Truths.{ascends-cons}
 use Rattle.asp_plain.specs.declared.masks.Level.{Level}
 use Rattle.asp_plain.specs.Masks.{with_atom, mask_of, candidates}
@@ -21,7 +22,7 @@ use Rattle.asp_plain.proofs.Atoms.{bit, same_test, same_masks, bit-fold, all_hel
 use Rattle.asp_plain.proofs.Beside.{Within}
 use Rattle.asp_plain.proofs.Fixing.{is_fixed, false_atoms, model-fixed}
 use Rattle.asp_plain.proofs.Known.{told}
-use Rattle.asp_plain.proofs.Minimal.{answer-same}
+use Rattle.asp_plain.proofs.Minimal.{bounded-same}
 use Rattle.asp_plain.proofs.Standing.{Stands, holds-filter, stands-filter, stands-mask_of, stands-within, candidates-atoms}
 
 -- the subsets of an ascending base ascend
@@ -56,7 +57,7 @@ first_member [] h = absurd (both_ways false refl h)
 first_member (x ∷ xs) h = (x, inl refl)
 
 -- a masked level over a base and a lower base, and an outer move M of the lower base
-module _ (G : List GroundRule) (level : Level) (lower base M : List ℕ) (m : ℕ) (masked : IsMasked lower base G level)
+module _ (G : List GroundRule) (bounds : List Bound) (level : Level) (lower base M : List ℕ) (m : ℕ) (masked : IsMasked lower base G bounds level)
     (outer : Stands lower M m) (ascending : ascends base ≡ true)
     (nested : (a : ℕ) → holds lower a ≡ true → holds base a ≡ true) where
   abbrev own : List ℕ
@@ -66,14 +67,14 @@ module _ (G : List GroundRule) (level : Level) (lower base M : List ℕ) (m : �
   candidates-own = ap (candidates m) masked.own ∙ candidates-atoms m own
 
   -- an answer set's mask is a candidate, and the table has it
-  pub move_to : (J : List ℕ) → IsIn J (answer_sets (G ++ fix lower M) base)
+  pub move_to : (J : List ℕ) → IsIn J (answer_sets (G ++ fix lower M) bounds base)
       → IsIn (mask_of J) (candidates m level.own) × (has_answer level (mask_of J) ≡ true) × Stands base J (mask_of J)
   move_to J i =
-      let at = filter_at (is_answer_set (G ++ fix lower M)) (subsets base) J i in
+      let at = filter_at (is_bounded_answer_set (G ++ fix lower M) bounds) (subsets base) J i in
       let stands : Stands base J (mask_of J) = stands-mask_of base J at.0 in
       let fixed : is_fixed lower M J ≡ true =
       (and_parts (is_model J (reduct G J)) (is_fixed lower M J)
-      (sym (model-fixed G lower M J J) ∙ answer_set-model (G ++ fix lower M) J at.1)).1 in
+      (sym (model-fixed G lower M J J) ∙ answer_set-model (G ++ fix lower M) J ((bounded_at (G ++ fix lower M) bounds J at.1).0))).1 in
       let parts = and_parts (list_all (holds J) M) (list_all (λ a. not (holds J a)) (false_atoms lower M)) fixed in
       let kept : Within m (mask_of J) = λ a h. sym (stands.marks a) ∙ all_to (holds J) M parts.0 a (outer.marks a ∙ h) in
       let K : List ℕ = filter (holds J) own in
@@ -98,15 +99,15 @@ module _ (G : List GroundRule) (level : Level) (lower base M : List ℕ) (m : �
       (subst (λ k. IsIn k (map (fold with_atom m) (subsets own))) joined
       (map_from (fold with_atom m) (subsets own) K (filter-subset (holds J) own))) in (
         member,
-        told G level lower base M m masked outer nested (mask_of J) member
-            ∙ answer-same G lower base M J m (mask_of J) outer stands (subset-ascends base J ascending stands.inside) kept fixed
+        told G bounds level lower base M m masked outer nested (mask_of J) member
+            ∙ bounded-same G lower base M J m (mask_of J) outer stands (subset-ascends base J ascending stands.inside) kept fixed bounds
             ∙ at.1,
         stands,
       )
 
   -- a candidate that the table has stands for an answer set
   pub move_from : (s : ℕ) → IsIn s (candidates m level.own) → has_answer level s ≡ true
-      → (J : List ℕ) × IsIn J (answer_sets (G ++ fix lower M) base) × Stands base J s
+      → (J : List ℕ) × IsIn J (answer_sets (G ++ fix lower M) bounds base) × Stands base J s
   move_from s i answer =
       let w = map_at (fold with_atom m) (subsets own) s (subst (IsIn s) candidates-own i) in
       let bits : (a : ℕ) → bit s a ≡ (bit m a || holds w.0 a) = λ a. ap (λ x. bit x a) w.2 ∙ bit-fold w.0 m a in
@@ -133,52 +134,52 @@ module _ (G : List GroundRule) (level : Level) (lower base M : List ℕ) (m : �
         | inr e ↦ both_ways (holds lower a) (not-true (holds lower a) ((own_at a e).1)) out.0
       ])))) in (
         J,
-        filter_from (is_answer_set (G ++ fix lower M)) (subsets base) J stands.inside
-            (sym (answer-same G lower base M J m s outer stands (subset-ascends base J ascending stands.inside) kept fixed)
-            ∙ (sym (told G level lower base M m masked outer nested s i) ∙ answer)),
+        filter_from (is_bounded_answer_set (G ++ fix lower M) bounds) (subsets base) J stands.inside
+            (sym (bounded-same G lower base M J m s outer stands (subset-ascends base J ascending stands.inside) kept fixed bounds)
+            ∙ (sym (told G bounds level lower base M m masked outer nested s i) ∙ answer)),
         stands,
       )
 
   -- the table has some candidate where there is a move
   pub some_move : list_any (has_answer level) (candidates m level.own)
-      ≡ not (is_empty (answer_sets (G ++ fix lower M) base))
+      ≡ not (is_empty (answer_sets (G ++ fix lower M) bounds base))
   some_move =
       same_test (list_any (has_answer level) (candidates m level.own))
-      (not (is_empty (answer_sets (G ++ fix lower M) base)))
+      (not (is_empty (answer_sets (G ++ fix lower M) bounds base)))
       (λ h.
       let w = any_at (has_answer level) (candidates m level.own) h in
       let move = move_from w.0 w.1 w.2 in
-      some_member move.0 (answer_sets (G ++ fix lower M) base) move.1)
+      some_member move.0 (answer_sets (G ++ fix lower M) bounds base) move.1)
       (λ h.
-      let w = first_member (answer_sets (G ++ fix lower M) base) h in
+      let w = first_member (answer_sets (G ++ fix lower M) bounds base) h in
       let move = move_to w.0 w.1 in
       any_from (has_answer level) (candidates m level.own) (mask_of w.0) move.0 move.1)
 
   -- a test of masks and a test of the sets that they stand for
   module _ (V : ℕ → Bool) (v : List ℕ → Bool) (same_value : (J : List ℕ) (s : ℕ) → Stands base J s → V s ≡ v J) where
     pub any_move : list_any (λ s. has_answer level s && V s) (candidates m level.own)
-        ≡ list_any v (answer_sets (G ++ fix lower M) base)
+        ≡ list_any v (answer_sets (G ++ fix lower M) bounds base)
     any_move =
         same_test (list_any (λ s. has_answer level s && V s) (candidates m level.own))
-        (list_any v (answer_sets (G ++ fix lower M) base))
+        (list_any v (answer_sets (G ++ fix lower M) bounds base))
         (λ h.
         let w = any_at (λ s. has_answer level s && V s) (candidates m level.own) h in
         let parts = and_parts (has_answer level w.0) (V w.0) w.2 in
         let move = move_from w.0 w.1 parts.0 in
-        any_from v (answer_sets (G ++ fix lower M) base) move.0 move.1 (sym (same_value move.0 w.0 move.2) ∙ parts.1))
+        any_from v (answer_sets (G ++ fix lower M) bounds base) move.0 move.1 (sym (same_value move.0 w.0 move.2) ∙ parts.1))
         (λ h.
-        let w = any_at v (answer_sets (G ++ fix lower M) base) h in
+        let w = any_at v (answer_sets (G ++ fix lower M) bounds base) h in
         let move = move_to w.0 w.1 in
         any_from (λ s. has_answer level s && V s) (candidates m level.own) (mask_of w.0) move.0
         (and_from (has_answer level (mask_of w.0)) (V (mask_of w.0)) move.1
         (same_value w.0 (mask_of w.0) move.2 ∙ w.2)))
 
     pub all_moves : list_all (λ s. not (has_answer level s) || V s) (candidates m level.own)
-        ≡ list_all v (answer_sets (G ++ fix lower M) base)
+        ≡ list_all v (answer_sets (G ++ fix lower M) bounds base)
     all_moves =
         same_test (list_all (λ s. not (has_answer level s) || V s) (candidates m level.own))
-        (list_all v (answer_sets (G ++ fix lower M) base))
-        (λ h. all_from v (answer_sets (G ++ fix lower M) base) (λ J i.
+        (list_all v (answer_sets (G ++ fix lower M) bounds base))
+        (λ h. all_from v (answer_sets (G ++ fix lower M) bounds base) (λ J i.
         let move = move_to J i in
         elim (or_cases (not (has_answer level (mask_of J))) (V (mask_of J))
         (all_at (λ s. not (has_answer level s) || V s) (candidates m level.own) (mask_of J) h move.0)) [
@@ -190,6 +191,6 @@ module _ (G : List GroundRule) (level : Level) (lower base M : List ℕ) (m : �
           | inl answer ↦
               let move = move_from s i answer in
               or_right (not (has_answer level s)) (V s)
-              (same_value move.0 s move.2 ∙ all_at v (answer_sets (G ++ fix lower M) base) move.0 h move.1)
+              (same_value move.0 s move.2 ∙ all_at v (answer_sets (G ++ fix lower M) bounds base) move.0 h move.1)
           | inr none ↦ or_left (not (has_answer level s)) (V s) (not_from_false (has_answer level s) none)
         ]))

@@ -5,7 +5,9 @@ use Rattle.std.specs.Prelude.{◌≡◌, ◌==◌, ℕ, Bool, true, false, not, 
 use Rattle.std.specs.List.{filter, list_all}
 use Rattle.std.specs.Int.RustNames.{bit_and, bit_or}
 use Rattle.asp_plain.specs.declared.masks.MaskedRule.{MaskedRule}
-use Rattle.asp_plain.specs.Masks.{HaveSameMembers, has_other_model, is_answer}
+use Rattle.asp_plain.specs.declared.bounds.MaskedBound.{MaskedBound}
+use Rattle.asp_plain.specs.Masks.{HaveSameMembers, has_other_model}
+use Rattle.asp_plain.specs.MaskedBounds.{is_bounded_answer}
 
 -- whether a set lies in a cube
 abbrev pub in_cube : ℕ → ℕ → ℕ → Bool
@@ -71,7 +73,8 @@ is_spared spared lower set rest s = spared && (s == least_of lower set rest s)
 abbrev pub is_beaten : List MaskedRule → ℕ → ℕ → ℕ → ℕ → Bool
 is_beaten rules lower small loose s = has_other_model rules s (least_of lower small loose s) (bit_or small (bit_and s loose))
 
--- a table says of each set over a base whether it is an answer set of rules with its atoms of the lower base fixed
-abbrev pub HoldsAnswers : List MaskedRule → ℕ → ℕ → List Bool → Type 0
-HoldsAnswers rules lower base table =
-    (s : ℕ) → bit_and s base ≡ s → get_or table s false ≡ is_answer rules (bit_and s lower) s
+-- a table says of each set over a base whether it is an answer set of rules and bounds with its atoms of the lower base
+-- fixed
+abbrev pub HoldsAnswers : List MaskedRule → List MaskedBound → ℕ → ℕ → List Bool → Type 0
+HoldsAnswers rules bounds lower base table =
+    (s : ℕ) → bit_and s base ≡ s → get_or table s false ≡ is_bounded_answer rules bounds (bit_and s lower) s

@@ -4,24 +4,26 @@ use Rattle.std.specs.List.{list_any, list_all}
 use Rattle.std.specs.Int.RustNames.{bit_and}
 use Rattle.asp_defs.specs.declared.ground.Game.{Game}
 use Rattle.asp_defs.specs.declared.ground.GroundRule.{GroundRule}
+use Rattle.asp_defs.specs.declared.ground.Bound.{Bound}
 use Rattle.asp_defs.specs.declared.syntax.Quant.{Quant}
 use Rattle.asp_defs.specs.declared.syntax.Quant.TheVariants.{Exists, Forall}
 use Rattle.asp_defs.specs.Games.{base}
 use Rattle.asp_plain.specs.declared.masks.Level.{Level}
-use Rattle.asp_plain.specs.Masks.{masked, mask_of, is_answer, own_bits, candidates}
+use Rattle.asp_plain.specs.Masks.{masked, mask_of, own_bits, candidates}
+use Rattle.asp_plain.specs.MaskedBounds.{masked_bound, is_bounded_answer}
 
--- a level with the atoms beyond the lower base, and at each set over the base whether it is an answer set of the rules with
--- the atoms of the lower base that it has fixed
-pub record IsMasked (lower base : List ℕ) (rules : List GroundRule) (level : Level) : Type 0 where
+-- a level with the atoms beyond the lower base, and at each set over the base whether it is an answer set of the rules and
+-- bounds with the atoms of the lower base that it has fixed
+pub record IsMasked (lower base : List ℕ) (rules : List GroundRule) (bounds : List Bound) (level : Level) : Type 0 where
   pub own : level.own ≡ own_bits lower base
   pub answers : (set : ℕ) → bit_and set (mask_of base) ≡ set
-      → get_or level.answers set false ≡ is_answer (map masked rules) (bit_and set (mask_of lower)) set
+      → get_or level.answers set false ≡ is_bounded_answer (map masked rules) (map masked_bound bounds) (bit_and set (mask_of lower)) set
 
 -- the levels of a game from the one above a base on
 abbrev pub AreMasked : Game → ℕ → List Level → Type 0
 AreMasked g below [] = Unit {0}
 AreMasked g below (level ∷ levels) =
-    IsMasked (base g below) (base g (below + 1)) (get_or g.rules below []) level × AreMasked g (below + 1) levels
+    IsMasked (base g below) (base g (below + 1)) (get_or g.rules below []) (get_or g.bounds below []) level × AreMasked g (below + 1) levels
 
 -- the own bits of the first level
 abbrev pub first_own : List Level → List ℕ

@@ -1,4 +1,5 @@
 pub mod Cubes
 pub mod Levels
 pub mod Masks
+pub mod MaskedBounds
 pub mod Sets

@@ -1,29 +1,32 @@
-// Which sets are answer sets of rules, as a table over all sets of a base: at each set's mask, whether it is one.
+// The answer sets of rules with bounds, as a table over all sets of a base: at each set's mask, whether it is one.
 //
-// Sets are tried in cubes: those that have `set` and beside it only atoms of `rest`. First those that are no models
-// are taken out. Then parts of sets are tried in the same way: those that have `small` and beside it only atoms of
-// `loose`. An atom of a rule with the fewest atoms is decided, so that what breaks ends soonest, in both ways: for the
-// part alone where the rule's positive body or head asks for it, since a part that breaks a rule then ends for all
-// sets at once; else for the set.
+// The search decides one atom after another, each in both ways. Its sets are a cube: those that have all atoms of `set`
+// and beside them only atoms of `rest`. First the sets leave the table that aren't models, and those that don't meet the
+// bounds. Then those leave it that aren't minimal models of their reduct: a second cube has the candidates for a smaller
+// model, which have all atoms of `small` and beside them only atoms of `loose`. The next atom is one of a rule with the
+// fewest atoms, so that conflicts show early. An open atom of that rule's positive body or head is decided in the
+// candidate alone, since a candidate that breaks the rule then fails for all sets of the cube at once; any other atom is
+// decided in the set.
 ghost use Rattle.std.specs.Prelude.{◌≡◌, ◌<◌, true, false, not, length, replicate, IfOk, OnOk};
 ghost use Rattle.std.specs.Int.RustNames.{bit_and, bit_or};
 ghost use Rattle.asp_plain.specs.Cubes.{rule_atoms, Sifted, HasNone, is_spared, is_beaten, HoldsAnswers};
 ghost use Rattle.asp_plain.specs.Masks.{IsBitOf, is_model_of_reduct};
 
+use crate::bounds::{MaskedBound, keep_met};
 use crate::left::{atoms, rules_left, shortest};
 use crate::masks::MaskedRule;
 use asp_defs::NoMemory;
 use std::alloc::Global;
 
 /// The bit of one of the atoms.
-fn first_bit(atoms: u32) -> u32
+pub fn first_bit(atoms: u32) -> u32
     requires { 0 < atoms }
     ensures { IsBitOf atoms result }
 {
     1u32 << atoms.trailing_zeros()
 }
 
-/// Whether the table has a set of the cube. The clause says what false means: true only has the sets tried further.
+/// Whether the table has a set of the cube. The contract says what false means; a needless true would only cost time.
 fn has_some(table: &[bool], set: u32, rest: u32) -> bool
     requires apart { bit_and set rest ≡ 0 }
     requires inside { bit_or set rest < length table.now }
@@ -84,8 +87,9 @@ fn keep_models(
     keep_models(alloc, left.as_slice(), set | bit, rest ^ bit, table)
 }
 
-/// The bit of an atom of the rule. It is one that is open for the smaller set where the positive body or the head has
-/// one, which no clause says: which atom it is only steers how soon what breaks ends.
+/// The bit of an atom of the rule: one of its positive body or its head that is open in the candidate, where there is
+/// one. The contract says only that it is one of the rule's: which one it is changes the order of decisions, and no
+/// answer.
 fn chosen(rule: &MaskedRule, loose: u32) -> u32
     requires { 0 < rule_atoms rule.now }
     ensures { IsBitOf (rule_atoms rule.now) result }
@@ -94,9 +98,10 @@ fn chosen(rule: &MaskedRule, loose: u32) -> u32
     first_bit(if wanted == 0 { atoms(rule) } else { wanted })
 }
 
-/// Takes the sets of the cube out of the table that another model of their reduct beats: one among their parts that
-/// has `small`, beside it only atoms of `loose`, and of these all those of `lower` that the set has.
-fn strike(
+/// Takes the sets of the cube out of the table that aren't minimal: those with a smaller model of their reduct. The
+/// smaller model has `small`, those atoms of the set that are in `loose` and in `lower`, and beside these only atoms of
+/// the set that are in `loose`.
+fn remove_non_minimal(
     alloc: Global,
     rules: &[MaskedRule],
     lower: u32,
@@ -130,10 +135,10 @@ fn strike(
     };
     let bit = chosen(&rule, loose);
     if bit & loose != 0 && bit & lower == 0 {
-        // An atom that the smaller set lacks stays open for the set.
+        // Left out of the candidate, the atom stays open in the set.
         let fewer = loose ^ bit;
-        strike(alloc, kept, lower, set, small, rest, fewer, table)?;
-        return strike(
+        remove_non_minimal(alloc, kept, lower, set, small, rest, fewer, table)?;
+        return remove_non_minimal(
             alloc,
             kept,
             lower,
@@ -144,12 +149,12 @@ fn strike(
             table,
         );
     }
-    // An atom that an outer move fixes is decided for both at once.
+    // An atom of the lower base is decided in both at once, another in the set alone.
     let both = bit & loose;
     let fewer = loose ^ both;
     let others = rest ^ bit;
-    strike(alloc, kept, lower, set, small, others, fewer, table)?;
-    strike(
+    remove_non_minimal(alloc, kept, lower, set, small, others, fewer, table)?;
+    remove_non_minimal(
         alloc,
         kept,
         lower,
@@ -161,25 +166,27 @@ fn strike(
     )
 }
 
-/// So many times true.
+/// A table of so many sets that has them all.
 fn all_true(alloc: Global, count: usize) -> Result<Vec<bool>, NoMemory>
     ensures { IfOk result (λ table. table.items ≡ replicate count true) }
 {
     Ok(vec![in alloc; true; count]?)
 }
 
-/// Whether each set over the base is an answer set of the rules with its atoms of the lower base fixed, at its mask.
-/// The models are found first, and then those among them that no smaller one beats.
+/// Whether each set over the base is an answer set of the rules and bounds with its atoms of the lower base fixed, at its
+/// mask. The models are found first, then those among them that meet the bounds, and then the minimal ones among these.
 pub fn answers(
     alloc: Global,
     rules: &[MaskedRule],
+    bounds: &[MaskedBound],
     lower: u32,
     base: u32,
 ) -> Result<Vec<bool>, NoMemory>
-    ensures { IfOk result (λ table. HoldsAnswers rules.now lower base table.items) }
+    ensures { IfOk result (λ table. HoldsAnswers rules.now bounds.now lower base table.items) }
 {
     let mut table = all_true(alloc, base as usize + 1)?;
     keep_models(alloc, rules, 0, base, table.as_mut_slice())?;
-    strike(alloc, rules, lower, 0, 0, base, base, table.as_mut_slice())?;
+    keep_met(bounds, 0, base, table.as_mut_slice());
+    remove_non_minimal(alloc, rules, lower, 0, 0, base, base, table.as_mut_slice())?;
     Ok(table)
 }

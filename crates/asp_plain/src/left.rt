@@ -1,5 +1,6 @@
-// What is left of rules where some atoms are decided: for the sets that have `set` and beside it only atoms of
-// `rest`, and for those of their parts that have `small` and beside it only atoms of `loose`.
+// What is left of rules once some atoms are decided. There are two cubes: the sets that have all atoms of `set` and
+// beside them only atoms of `rest`, and the candidates for a smaller model of such a set's reduct, which have all
+// atoms of `small` and beside them only atoms of `loose`.
 ghost use Rattle.std.specs.Prelude.{◌≡◌, true, [], None, Contains, IfOk, IfSome};
 ghost use Rattle.std.specs.List.{list_any};
 ghost use Rattle.asp_plain.specs.Cubes.{rule_atoms, is_bare, can_matter as can_matter_by, narrowed as narrowed_by, left_of, IsWhole};
@@ -9,12 +10,11 @@ use crate::masks::{MaskedRule, drop_repeated};
 use asp_defs::NoMemory;
 use std::alloc::Global;
 
-/// Up to so many rules it takes longer to sort them than to keep what is repeated.
+/// Up to this many rules repeated ones stay, since a sort costs more than they do.
 const FEW: usize = 16;
 
-/// Rules are sorted where the count of open atoms, with those that are open for set and part counted twice, is a
-/// multiple of this: sorting takes about ten times as long as passing over the rules, so that it pays once in a few
-/// decided atoms.
+/// Repeated rules go where the number of open atoms, those of both cubes added, is a multiple of this: a sort takes as
+/// long as about ten passes over the rules, so that it pays once in a few decisions.
 const SORTED_EACH: u32 = 4;
 
 /// The atoms of the rule.
@@ -24,7 +24,8 @@ pub fn atoms(rule: &MaskedRule) -> u32
     rule.positive | rule.negative | rule.head
 }
 
-/// False only where each of the parts satisfies what the reducts by the sets have of the rule.
+/// Whether the rule can still be broken. It is false only where each candidate satisfies what the reduct by any of the
+/// sets has of the rule.
 fn can_matter(rule: &MaskedRule, set: u32, small: u32, rest: u32, loose: u32) -> bool
     ensures { result ≡ can_matter_by rule.now set small rest loose }
 {
@@ -34,8 +35,8 @@ fn can_matter(rule: &MaskedRule, set: u32, small: u32, rest: u32, loose: u32) ->
         && rule.head & small == 0
 }
 
-/// The rule without the atoms that are decided, where it can matter. A choice that may still lack its head in the set
-/// keeps its head's atom while it is open for the set or for the part.
+/// The rule, which can still be broken, without its decided atoms. A choice whose head may still be false in the set
+/// keeps the head's atom while it is open in one of the cubes.
 fn narrowed(rule: &MaskedRule, set: u32, rest: u32, loose: u32) -> MaskedRule
     ensures { result ≡ narrowed_by set rest loose rule.now }
 {
@@ -49,7 +50,7 @@ fn narrowed(rule: &MaskedRule, set: u32, rest: u32, loose: u32) -> MaskedRule
     }
 }
 
-/// Drops rules that stand there twice, where there are many and it is their turn.
+/// Drops repeated rules, where there are many and the number of open atoms is one at which they go.
 fn thin_out(rules: &mut Vec<MaskedRule>, rest: u32, loose: u32)
     ensures { HaveSameMembers rules.new.items rules.old.items }
 {
@@ -58,8 +59,8 @@ fn thin_out(rules: &mut Vec<MaskedRule>, rest: u32, loose: u32)
     }
 }
 
-/// What is left of the rules; none where a rule without atoms is, which each of the parts breaks. Equal ones are
-/// dropped now and then.
+/// The rules that can still be broken, without their decided atoms; `None` where one of them has no atom left, since
+/// each candidate breaks it.
 pub fn rules_left(
     alloc: Global,
     rules: &[MaskedRule],
@@ -85,8 +86,8 @@ pub fn rules_left(
     Ok(Some(left))
 }
 
-/// One of the rules; none where there is no rule. It is the first with the fewest atoms, which no clause says: which
-/// rule it is only steers which atom is decided next.
+/// The first rule with the fewest atoms; `None` where there is no rule. The contract says only that it is one of the
+/// rules: which one it is changes the order of decisions, and no answer.
 pub fn shortest(rules: &[MaskedRule]) -> Option<MaskedRule>
     ensures none { result ≡ None → rules.now ≡ [] }
     ensures member { IfSome result (λ rule. Contains rules.now rule) }

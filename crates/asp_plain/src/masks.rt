@@ -4,10 +4,11 @@ ghost use Rattle.std.specs.List.{list_all};
 ghost use Rattle.asp_defs.specs.Games.{IsValid};
 ghost use Rattle.asp_plain.specs.Levels.{IsMasked, AreMasked};
 ghost use Rattle.asp_plain.specs.Masks.{most_masked, mask_of, masked, own_bits as own_bits_of, HaveSameMembers};
-ghost use Rattle.asp_reduct.specs.Bounds.{are_below, is_rule_below};
+ghost use Rattle.asp_reduct.specs.Bounds.{are_below, is_rule_below, is_bound_below};
 
 use crate::answers::answers;
-use asp_defs::{Game, GroundRule, List, NoMemory};
+use crate::bounds::masked_bounds;
+use asp_defs::{Bound, Game, GroundRule, List, NoMemory};
 use std::alloc::Global;
 
 /// A rule whose lists of atoms are masks. Its fields stand in the order by which rules are sorted: what has no body
@@ -29,13 +30,13 @@ pub struct MaskedRule {
 pub struct Level {
     /// The bits of the atoms that the lower base lacks, in the order of the atoms.
     pub own: List<u32>,
-    /// Whether each set over the base, at its mask, is an answer set of the rules with the atoms of the lower base
-    /// that it has fixed.
+    /// Whether each set over the base, at its mask, is an answer set of the rules and bounds with the atoms of the lower
+    /// base that it has fixed.
     pub answers: List<bool>,
 }
 
 /// The atom's bit.
-fn bit(atom: u32) -> u32
+pub fn bit(atom: u32) -> u32
     requires { atom < most_masked }
     ensures { result ≡ 2 ^ atom }
 {
@@ -43,7 +44,7 @@ fn bit(atom: u32) -> u32
 }
 
 /// The set of the atoms.
-fn mask(atoms: &[u32]) -> u32
+pub fn mask(atoms: &[u32]) -> u32
     requires { IsTrue (are_below most_masked atoms.now) }
     ensures { result ≡ mask_of atoms.now }
 {
@@ -111,15 +112,24 @@ fn masked_level(
     lower: &[u32],
     base: &[u32],
     rules: &[GroundRule],
+    bounds: &[Bound],
 ) -> Result<Level, NoMemory>
     requires lower { IsTrue (are_below most_masked lower.now) }
     requires base { IsTrue (are_below most_masked base.now) }
     requires rules { IsTrue (list_all (is_rule_below most_masked) rules.now) }
-    ensures { IfOk result (IsMasked lower.now base.now rules.now) }
+    requires bounds { IsTrue (list_all (is_bound_below most_masked) bounds.now) }
+    ensures { IfOk result (IsMasked lower.now base.now rules.now bounds.now) }
 {
     let own = own_bits(alloc, lower, base)?;
     let rules = masked_rules(alloc, rules)?;
-    let answers = answers(alloc, rules.as_slice(), mask(lower), mask(base))?;
+    let bounds = masked_bounds(alloc, bounds)?;
+    let answers = answers(
+        alloc,
+        rules.as_slice(),
+        bounds.as_slice(),
+        mask(lower),
+        mask(base),
+    )?;
     Ok(Level {
         own,
         answers: List::from_vec(answers),
@@ -134,11 +144,13 @@ pub fn masked_levels(alloc: Global, game: &Game) -> Result<Vec<Level>, NoMemory>
     ensures number { IfOk result (λ levels. length levels.items ≡ length game.now.rules) }
 {
     let members = game.bases.members.as_slice();
+    let bounds = game.bounds.as_slice();
     let mut levels = Vec::new(alloc);
     for (below, rules) in game.rules.as_slice().iter().enumerate() {
         let lower = members[below].as_slice();
         let base = members[below + 1].as_slice();
-        let level = masked_level(alloc, lower, base, rules.as_slice())?;
+        let level_bounds = bounds[below].as_slice();
+        let level = masked_level(alloc, lower, base, rules.as_slice(), level_bounds)?;
         levels.push(level)?;
     }
     Ok(levels)

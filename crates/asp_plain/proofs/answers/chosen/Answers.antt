@@ -3,7 +3,7 @@ use Rattle.std.specs.Int.RustNames.{bit_and, bit_or}
 use Rattle.asp_plain.specs.Cubes.{rule_atoms}
 use Rattle.asp_plain.specs.Masks.{IsBitOf}
 use Rattle.asp_plain.proofs.Cubes.{IsBit-within}
-use Rattle.asp_plain.proofs.Striking.{within_atoms}
+use Rattle.asp_plain.proofs.Removing.{within_atoms}
 use Rattle.asp_plain.proofs.answers.chosen.Goals as goal
 use Rattle.asp_plain.proofs.answers.chosen.Goals.{then-wanted-eq0, else-wanted-eq0}
 

@@ -3,12 +3,13 @@ use Rattle.std.specs.Prelude.{IsTrue}
 use Rattle.std.specs.List.{list_all}
 use Rattle.std.proofs.lemmas.List.{length_push}
 use Rattle.asp_defs.specs.declared.ground.GroundRule.{GroundRule}
+use Rattle.asp_defs.specs.declared.ground.Bound.{Bound}
 use Rattle.asp_defs.specs.Games.{base}
-use Rattle.asp_reduct.specs.Bounds.{are_below, is_rule_below}
+use Rattle.asp_reduct.specs.Bounds.{are_below, is_rule_below, is_bound_below}
 use Rattle.asp_plain.specs.declared.masks.Level.{Level}
 use Rattle.asp_plain.specs.Masks.{most_masked}
 use Rattle.asp_plain.specs.Levels.{AreMasked}
-use Rattle.asp_plain.proofs.Bounds.{base-below, rules-below}
+use Rattle.asp_plain.proofs.AtomsBelow.{base-below, rules-below, bounds-below}
 use Rattle.asp_plain.proofs.Gathering.{AreMasked-push, read-at, IsMasked-same}
 use Rattle.asp_plain.proofs.masks.masked_levels.Goals as goal
 use Rattle.asp_plain.proofs.masks.masked_levels.Goals.{After-as_slice}
@@ -44,6 +45,15 @@ module _ (c : After-as_slice) where
       read-at c.as_slice-rules-items.result.now c.args.game.now.rules c.loop-below.below c.rules-item.result
       c.as_slice.result.now c.as_slice-rules-items.ensures c.loop-below-test.true c.rules-item.is c.as_slice.ensures
 
+  bounds_left : c.loop-below.below < length c.args.game.now.bounds
+  bounds_left = let h = rules_left in omega (arith, h, c.requires.valid.rule_lists, c.requires.valid.bound_lists)
+
+  bounds_are : c.as_slice-level_bounds.result.now ≡ get_or c.args.game.now.bounds c.loop-below.below []
+  bounds_are =
+      read-at c.as_slice-bounds.result.now c.args.game.now.bounds c.loop-below.below c.index-bounds-below.result
+      c.as_slice-level_bounds.result.now c.as_slice-bounds.ensures
+      (let h = bounds_left in omega (arith, ap (λ (xs : List (List Bound)). length xs) c.as_slice-bounds.ensures)) c.index-bounds-below.is c.as_slice-level_bounds.ensures
+
 pub masked_level-requires-clause-lower : goal.masked_level-requires-clause-lower
 masked_level-requires-clause-lower c =
     let d = (goal.at.masked_level-requires-clause-lower c).After-as_slice in
@@ -66,6 +76,12 @@ masked_level-requires-clause-rules c =
     subst (λ (rs : List GroundRule). IsTrue (list_all (is_rule_below most_masked) rs)) (sym (rules_are d))
     (rules-below c.args.game.now c.requires.valid most_masked c.requires.few c.loop-below.below (rules_left d))
 
+pub masked_level-requires-clause-bounds : goal.masked_level-requires-clause-bounds
+masked_level-requires-clause-bounds c =
+    let d = (goal.at.masked_level-requires-clause-bounds c).After-as_slice in
+    subst (λ (bs : List Bound). IsTrue (list_all (is_bound_below most_masked) bs)) (sym (bounds_are d))
+    (bounds-below c.args.game.now c.requires.valid most_masked c.requires.few c.loop-below.below (bounds_left d))
+
 pub loop-below-preserved : goal.loop-below-preserved
 loop-below-preserved c =
     let d = (goal.at.loop-below-preserved c).After-as_slice in
@@ -77,6 +93,7 @@ loop-below-preserved c =
           (AreMasked-push c.args.game.now 0 levels level c.loop-below.below (omega arith) c.loop-below.invariant.masked
           (IsMasked-same c.as_slice-lower.result.now (base c.args.game.now c.loop-below.below) c.as_slice-base.result.now
           (base c.args.game.now (c.loop-below.below + 1)) c.as_slice.result.now
-          (get_or c.args.game.now.rules c.loop-below.below []) level (lower_is d) (base_is d) (rules_are d) c.in_ok-level.ensures));
+          (get_or c.args.game.now.rules c.loop-below.below []) c.as_slice-level_bounds.result.now
+          (get_or c.args.game.now.bounds c.loop-below.below []) level (lower_is d) (base_is d) (rules_are d) (bounds_are d) c.in_ok-level.ensures));
       number = ap (λ (ls : List Level). length ls) c.in_ok-push.ensures.items ∙ (length_push levels level ∙ ap (λ (n : ℕ). n + 1) number);
     }

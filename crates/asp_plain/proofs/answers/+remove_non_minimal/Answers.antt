@@ -7,9 +7,9 @@ use Rattle.asp_plain.proofs.Atoms.{bit}
 use Rattle.asp_plain.proofs.Beaten.{one_open, unbeaten}
 use Rattle.asp_plain.proofs.Calls.{fit_of, moved, fit_alone_without, fit_alone_with, rest_alone, whole_alone, fit_without, fit_with, without_le, rest_of}
 use Rattle.asp_plain.proofs.Cubes.{whole_without, whole_with, rest_less, lies_in, lies_out}
-use Rattle.asp_plain.proofs.Striking.{same_list, same_unbeaten, cleared, struck_alone, struck}
-use Rattle.asp_plain.proofs.answers.+strike.Goals as goal
-use Rattle.asp_plain.proofs.answers.+strike.Goals.{else-bit-loose-ne0-via-then-bit-loose-ne0+else-bit-lower-eq0, else-bit-loose-ne0-via-else-bit-loose-ne0}
+use Rattle.asp_plain.proofs.Removing.{same_list, same_unbeaten, cleared, removed_alone, removed}
+use Rattle.asp_plain.proofs.answers.+remove_non_minimal.Goals as goal
+use Rattle.asp_plain.proofs.answers.+remove_non_minimal.Goals.{else-bit-loose-ne0-via-then-bit-loose-ne0+else-bit-lower-eq0, else-bit-loose-ne0-via-else-bit-loose-ne0}
 
 pub returns-then-loose-lower : goal.returns-then-loose-lower
 returns-then-loose-lower t c =
@@ -37,8 +37,8 @@ returns-in_default-shortest t c =
     cleared c.args.rules.now kept lower set small rest loose members fit c.args.table.now c.clear.new.table
     (c.in_default-shortest.ensures.none refl) c.clear.ensures
 
-pub strike-requires : goal.strike-requires
-strike-requires t c =
+pub remove_non_minimal-requires : goal.remove_non_minimal-requires
+remove_non_minimal-requires t c =
     let lower = c.args.lower in
     let set = c.args.set in
     let small = c.args.small in
@@ -59,8 +59,8 @@ strike-requires t c =
     let next = fit_alone_without lower set small rest loose b fit one in
     (omega arith, (next.apart, (next.part, (next.free, (next.within, (next.settled, c.requires.inside))))))
 
-pub strike-requires-then-bit-lower-eq0 : goal.strike-requires-then-bit-lower-eq0
-strike-requires-then-bit-lower-eq0 t c =
+pub remove_non_minimal-requires-then-bit-lower-eq0 : goal.remove_non_minimal-requires-then-bit-lower-eq0
+remove_non_minimal-requires-then-bit-lower-eq0 t c =
     let lower = c.args.lower in
     let set = c.args.set in
     let small = c.args.small in
@@ -82,7 +82,7 @@ strike-requires-then-bit-lower-eq0 t c =
     let next = fit_alone_with lower set small rest loose b fit one in
     let whole = whole_alone lower set small rest loose b fit one in
     let inside = c.requires.inside in
-    let long = c.in_ok-strike.ensures.long in
+    let long = c.in_ok-remove_non_minimal.ensures.long in
     (omega arith, (next.apart, (next.part, (next.free, (next.within, (next.settled, omega arith))))))
 
 pub returns-then-bit-lower-eq0 : goal.returns-then-bit-lower-eq0
@@ -102,13 +102,13 @@ returns-then-bit-lower-eq0 t c =
     let either = one_open c.args.rules.now kept lower set small rest loose members c.in-Some-shortest.rule kept
     (rule_atoms c.in-Some-shortest.rule) b refl c.in-Some-shortest.ensures.member refl c.chosen-bit.ensures in
     let one = moved (bit_or rest loose) b either loose (lies_in (bit_or rest loose) b either loose c.if-bit-loose-ne0.true) in
-    on_ok_weaker c.strike-then-bit-lower-eq0.result
-    (struck_alone c.args.rules.now kept lower set small rest loose members fit b one (lies_out loose b one lower c.if-bit-lower-eq0.true)
-    c.args.table.now c.strike.new.table c.strike-then-bit-lower-eq0.new.table c.in_ok-strike.ensures)
-    c.strike-then-bit-lower-eq0.ensures
+    on_ok_weaker c.remove_non_minimal-then-bit-lower-eq0.result
+    (removed_alone c.args.rules.now kept lower set small rest loose members fit b one (lies_out loose b one lower c.if-bit-lower-eq0.true)
+    c.args.table.now c.remove_non_minimal.new.table c.remove_non_minimal-then-bit-lower-eq0.new.table c.in_ok-remove_non_minimal.ensures)
+    c.remove_non_minimal-then-bit-lower-eq0.ensures
 
-pub strike-requires-2 : goal.strike-requires-2
-strike-requires-2 t c =
+pub remove_non_minimal-requires-2 : goal.remove_non_minimal-requires-2
+remove_non_minimal-requires-2 t c =
     let lower = c.args.lower in
     let set = c.args.set in
     let small = c.args.small in
@@ -140,8 +140,8 @@ strike-requires-2 t c =
     let inside = c.requires.inside in
     (omega arith, (next.apart, (next.part, (next.free, (next.within, (next.settled, omega arith))))))
 
-pub strike-requires-3 : goal.strike-requires-3
-strike-requires-3 t c =
+pub remove_non_minimal-requires-3 : goal.remove_non_minimal-requires-3
+remove_non_minimal-requires-3 t c =
     let lower = c.args.lower in
     let set = c.args.set in
     let small = c.args.small in
@@ -171,7 +171,7 @@ strike-requires-3 t c =
     let next = fit_with lower set small rest loose b fit one in
     let whole = whole_with set rest b c.requires.apart one in
     let inside = c.requires.inside in
-    let long = c.in_ok-strike-2.ensures.long in
+    let long = c.in_ok-remove_non_minimal-2.ensures.long in
     (omega arith, (next.apart, (next.part, (next.free, (next.within, (next.settled, omega arith))))))
 
 pub returns : goal.returns
@@ -199,7 +199,7 @@ returns t c =
           absurd (both_ways (bit loose either.place) (lies_out (bit_or rest loose) b either loose w.if-bit-loose-ne0.false) on)
     ] in
     let one = rest_of lower set small rest loose b fit either fixed in
-    on_ok_weaker c.strike-3.result
-    (struck c.args.rules.now kept lower set small rest loose members fit b one fixed c.args.table.now c.strike-2.new.table
-    c.strike-3.new.table c.in_ok-strike-2.ensures)
-    c.strike-3.ensures
+    on_ok_weaker c.remove_non_minimal-3.result
+    (removed c.args.rules.now kept lower set small rest loose members fit b one fixed c.args.table.now c.remove_non_minimal-2.new.table
+    c.remove_non_minimal-3.new.table c.in_ok-remove_non_minimal-2.ensures)
+    c.remove_non_minimal-3.ensures

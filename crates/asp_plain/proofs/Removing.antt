@@ -203,11 +203,11 @@ module _ (set rest loose b : ℕ) (within : bit_and loose (bit_or set rest) ≡ 
 module _ (rules left : List MaskedRule) (lower set small rest loose : ℕ)
     (members : HaveSameMembers left (left_of set small rest loose rules)) (fit : Fit lower set small rest loose) (b : ℕ) where
   -- the sets by parts without the atom, and those with it by parts with it
-  pub struck_alone : (one : IsBitOf loose b) → bit lower one.place ≡ false → (old middle new : List Bool)
+  pub removed_alone : (one : IsBitOf loose b) → bit lower one.place ≡ false → (old middle new : List Bool)
       → Sifted set rest (λ s. not (is_beaten left lower small (bit_xor loose b) s)) old middle
       → Sifted (bit_or set b) (bit_xor (bit_or rest b) b) (λ s. not (is_beaten left lower (bit_or small b) (bit_xor loose b) s)) middle new
       → Sifted set rest (λ s. not (is_beaten rules lower small loose s)) old new
-  struck_alone one out old middle new without with_one =
+  removed_alone one out old middle new without with_one =
       let first : ℕ → Bool = λ s. is_beaten left lower small (bit_xor loose b) s in
       let second : ℕ → Bool = λ s. is_beaten left lower (bit_or small b) (bit_xor loose b) s in
       sifted_same
@@ -275,11 +275,11 @@ module _ (rules left : List MaskedRule) (lower set small rest loose : ℕ)
               ∙ ap (λ (m : ℕ). is_beaten left lower small m s) (less_none loose))
         ]
 
-    pub struck : (old middle new : List Bool)
+    pub removed : (old middle new : List Bool)
         → Sifted set (bit_xor rest b) (λ s. not (is_beaten left lower small (bit_xor loose both) s)) old middle
         → Sifted (bit_or set b) (bit_xor rest b) (λ s. not (is_beaten left lower (bit_or small both) (bit_xor loose both) s)) middle new
         → Sifted set rest (λ s. not (is_beaten rules lower small loose s)) old new
-    struck old middle new without with_one =
+    removed old middle new without with_one =
         sifted_halves set rest b fit.apart one (λ s. not (is_beaten left lower small (bit_xor loose both) s))
         (λ s. not (is_beaten left lower (bit_or small both) (bit_xor loose both) s))
         (λ s. not (is_beaten rules lower small loose s)) old middle new without with_one
