@@ -20,3 +20,10 @@ pub mod ExamineLemmas
 pub mod VisitLemmas
 pub mod WalkLemmas
 pub mod RunLemmas
+pub mod KeptLemmas
+pub mod RenamedLemmas
+pub mod CompactLemmas
+pub mod KeepLemmas
+pub mod RecordLemmas
+pub mod NumberedLemmas
+pub mod BookLemmas

@@ -1,5 +1,5 @@
 -- Propagation as a whole, and what it has reached in the end.
-use Rattle.std.proofs.Common.{◌≡◌, ℕ, ◌+◌, ◌*◌, ◌/◌, ◌<◌, ◌≤◌, List, length, get_or, map, refl, sym, ◌∙◌, ap, arith, inl, inr, subst}
+use Rattle.std.proofs.Common.{◌≡◌, ℕ, ◌+◌, ◌*◌, ◌/◌, ◌<◌, ◌≤◌, List, length, get_or, map, sym, ◌∙◌, ap, arith, inl, inr, subst}
 use Rattle.std.specs.List.{Contains}
 use Rattle.std.proofs.lemmas.List.{length-map}
 use Rattle.std.proofs.lemmas.Bool.{cases_lt, cases_eq}
@@ -16,7 +16,7 @@ use Rattle.asp_clauses.proofs.FewLemmas.{not_both, not_placed}
 use Rattle.asp_clauses.proofs.StoreLemmas.{clause_at-book}
 use Rattle.asp_clauses.proofs.WatchLemmas.{length_literals, literal_in_row, cell_in_range, watches_differ}
 use Rattle.asp_clauses.proofs.ChoiceLemmas.{placed_visited}
-use Rattle.asp_clauses.proofs.ReorderLemmas.{SameClauses-refl, SameClauses-trans, Contains-at}
+use Rattle.asp_clauses.proofs.ReorderLemmas.{SameClauses-trans, Contains-at}
 use Rattle.asp_clauses.proofs.ExamineLemmas.{Extends-refl, Extends-trans}
 use Rattle.asp_clauses.proofs.VisitLemmas.{watched_cells}
 

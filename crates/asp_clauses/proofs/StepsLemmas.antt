@@ -1,11 +1,10 @@
 -- Steps: one more at the end, and the first of them.
 use Rattle.std.proofs.Common.{◌≡◌, ◌≢◌, ℕ, zero, suc, ◌+◌, ◌/◌, ◌<◌, ◌≤◌, ◌⊎◌, Bool, true, false, cond, List, [], ◌∷◌, ◌++◌, length, take, refl, sym, ◌∙◌, ap, arith, inl, inr, subst, zero-add}
 use Rattle.std.proofs.lemmas.List.{length_push, get_or_append_left, get_or_push, get_or-take, length-take-le, take-take}
-use Rattle.std.proofs.lemmas.List.Sums.{sum_by_push, sum_by-append, sum_by-take-le, count_by_more_yes, count_by-le-length}
+use Rattle.std.proofs.lemmas.List.Sums.{sum_by_push, sum_by-append, sum_by-take-le, count_by-le-length}
 use Rattle.std.proofs.lemmas.Bool.{cases_lt, cases_Bool}
 use Rattle.asp_clauses.specs.declared.trail.Step.{Step}
-use Rattle.asp_clauses.specs.Literal.{negated}
-use Rattle.asp_clauses.specs.Trail.{no_step, step_at, is_decision, decisions, IsPlaced, IsUnassigned, IsFalse, back_to}
+use Rattle.asp_clauses.specs.Trail.{no_step, step_at, is_decision, decisions, IsPlaced, IsUnassigned, back_to}
 
 -- a place of the longer trail
 pub place_cases : (steps : List Step) (step : Step) (place : ℕ) → place < length (steps ++ step ∷ []) → (place < length steps) ⊎ (place ≡ length steps)

@@ -2,6 +2,7 @@
 use Rattle.std.proofs.Common.{◌≡◌, ℕ, ◌+◌, ◌*◌, ◌^◌, ◌<◌, ◌≤◌, ◌⊎◌, List, [], ◌∷◌, ◌++◌, length, get_or, drop, map, min, max, refl, sym, ◌∙◌, ap, arith, inl, inr, subst, length-append, length-drop, replicate, lit<}
 use Rattle.std.proofs.lemmas.Bool.{cases_lt}
 use Rattle.std.proofs.lemmas.List.{length_push, get_or_append_left, get_or_push, take_at, get_or-map, length-map, get_or-replicate, length-replicate}
+use Rattle.asp_clauses.specs.Literal.{most_atoms}
 use Rattle.asp_clauses.specs.declared.watches.Watches.{Watches}
 use Rattle.asp_clauses.specs.Records.{row_at, literals_of, record_of, end}
 use Rattle.asp_clauses.specs.Book.{IsClause}
@@ -91,7 +92,7 @@ AreWatches-push old new literals w c atoms watched heads records few =
     }
 
 -- no clause yet
-pub AreWatches-none : (new : Watches) → new.atoms ≤ 262144 → new.watched ≡ 0 → new.records ≡ [] → new.heads.items ≡ replicate (2 * new.atoms + 1) end → AreWatches new
+pub AreWatches-none : (new : Watches) → new.atoms ≤ most_atoms → new.watched ≡ 0 → new.records ≡ [] → new.heads.items ≡ replicate (2 * new.atoms + 1) end → AreWatches new
 AreWatches-none new few watched records heads =
     let none = ap length records in
     record {

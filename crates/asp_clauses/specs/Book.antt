@@ -1,6 +1,7 @@
 -- What a book of clauses is, and when a book and a trail go together.
 use Rattle.std.specs.Prelude.{◌≡◌, ◌≢◌, ℕ, zero, suc, ◌*◌, ◌/◌, ◌^◌, ◌<◌, ◌≤◌, List, length, take, slice_index_or}
 use Rattle.std.specs.List.Sorted.{IsPermutation}
+use Rattle.asp_clauses.specs.declared.kind.Kind.{Kind}
 use Rattle.asp_clauses.specs.declared.trail.Step.{Step}
 use Rattle.asp_clauses.specs.Literal.{negated}
 use Rattle.asp_clauses.specs.Tables.{AreMarks}
@@ -10,6 +11,7 @@ use Rattle.asp_clauses.specs.Trail.{TrailState, IsPlaced, IsLawful, literal_at, 
 pub record BookState : Type 0 where
   pub atoms : ℕ
   pub clauses : List (List ℕ)
+  pub kinds : List Kind
   pub watched : ℕ
 
 -- the same clauses at the same numbers, each but for the order of its literals

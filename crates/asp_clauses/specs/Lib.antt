@@ -9,3 +9,4 @@ pub mod Tables
 pub mod TrailFields
 pub mod Visits
 pub mod Choices
+pub mod Kept

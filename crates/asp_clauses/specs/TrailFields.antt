@@ -1,5 +1,6 @@
 -- What the fields of a trail say.
 use Rattle.std.specs.Prelude.{◌≡◌, ◌+◌, ◌*◌, ◌≤◌, List, length, take}
+use Rattle.asp_clauses.specs.Literal.{most_atoms}
 use Rattle.asp_clauses.specs.declared.trail.Step.{Step}
 use Rattle.asp_clauses.specs.declared.trail.Mark.{Mark}
 use Rattle.asp_clauses.specs.declared.trail.Trail.TheInside.{Inside}
@@ -23,7 +24,7 @@ state_of t = record {
 }
 
 pub record IsSound (t : Inside) : Type 0 where
-  pub few_atoms : t.atoms ≤ 262144
+  pub few_atoms : t.atoms ≤ most_atoms
   pub steps_size : length t.steps.items ≡ t.atoms
   pub values_size : length t.values.items ≡ 2 * t.atoms + 1
   pub positions_size : length t.positions.items ≡ t.atoms + 1

@@ -1,5 +1,7 @@
 -- The lists of watching clauses, as heads and links that lie in the records.
-use Rattle.std.specs.Prelude.{◌≡◌, ◌≢◌, ℕ, ◌+◌, ◌^◌, ◌<◌, ◌≤◌, ◌⊎◌, ◌==◌, List, length, map, max, slice_index, slice_index_or, if◌then◌else◌}
+use Rattle.std.specs.Prelude.{◌≡◌, ◌≢◌, ℕ, ◌+◌, ◌^◌, ◌<◌, ◌≤◌, ◌⊎◌, ◌==◌, List, [], length, map, max, slice_index, slice_index_or, if◌then◌else◌}
+use Rattle.asp_clauses.specs.Literal.{most_atoms}
+use Rattle.asp_clauses.specs.declared.kind.Kind.{Kind}
 use Rattle.asp_clauses.specs.declared.watches.Watches.{Watches}
 use Rattle.asp_clauses.specs.Records.{row_at, literals_of, end}
 use Rattle.asp_clauses.specs.Book.{BookState, IsClause, origin}
@@ -44,7 +46,7 @@ WatchingBelow rows watched literal clause = (clause < watched) × Watching rows 
 
 -- sizes, and that each row is a record; the clauses that are watched have a literal
 pub record IsStore (watches : Watches) : Type 0 where
-  pub few_atoms : watches.atoms ≤ 262144
+  pub few_atoms : watches.atoms ≤ most_atoms
   pub heads : length watches.heads.items ≡ origin watches.atoms + 1
   pub few : length watches.records < 2 ^ 32
   pub watched : watches.watched ≤ length watches.records
@@ -61,6 +63,10 @@ pub record AreWatches (watches : Watches) : Type 0 where
   pub store : IsStore watches
   pub listed : (lists : ℕ → List ℕ) × IsListed watches lists
 
--- the book that the watches hold
+-- the book that the watches hold, by itself without kinds
 abbrev pub book_of : Watches → BookState
-book_of watches = record { atoms = watches.atoms; clauses = map literals_of watches.records; watched = watches.watched }
+book_of watches = record { atoms = watches.atoms; clauses = map literals_of watches.records; kinds = []; watched = watches.watched }
+
+-- each clause has its kind
+abbrev pub HaveKinds : Watches → List Kind → Type 0
+HaveKinds watches kinds = length kinds ≡ length watches.records

@@ -1,11 +1,15 @@
 //! The book of clauses.
 
-ghost use Rattle.std.specs.Prelude.{◌≡◌, ℕ, ◌+◌, ◌*◌, ◌<◌, ◌≤◌, [], ◌∷◌, ◌++◌, length, IfOk, OnErr, slice_index};
+ghost use Rattle.std.specs.Prelude.{◌≡◌, ℕ, ◌+◌, ◌*◌, ◌<◌, ◌≤◌, true, false, [], ◌∷◌, ◌++◌, length, map, IfOk, OnErr, slice_index};
+ghost use Rattle.asp_clauses.specs.Literal.{most_atoms};
 ghost use Rattle.asp_clauses.specs.Trail.{TrailState, clause_at};
 ghost use Rattle.asp_clauses.specs.Book.{Goes, IsClause};
+ghost use Rattle.asp_clauses.specs.Kept.{kept, is_firm, mark_of, kind_at, no_kind, renumbered, IsReason};
 
 use crate::NoMemory;
-use crate::records::Records;
+use crate::compact::{compact, keep_added, number_clauses, number_firm};
+use crate::kind::{FIRM, Kind, LOOSE};
+use crate::trail::Trail;
 use crate::watches::Watches;
 use std::alloc::Global;
 use std::marker::Model;
@@ -14,6 +18,8 @@ use std::marker::Model;
 #[derive(Drop)]
 pub struct Book {
     pub(crate) watches: Watches,
+    // The kind of each clause.
+    kinds: Vec<Kind>,
 }
 
 impl Model for Book {
@@ -21,22 +27,24 @@ impl Model for Book {
 
     ghost Value = { BookState };
 
-    ghost use Rattle.asp_clauses.specs.Watches.{book_of, AreWatches};
+    ghost use Rattle.asp_clauses.specs.Watches.{book_of, AreWatches, HaveKinds};
 
-    ghost view = { λ b. book_of b.watches };
+    ghost view = { λ b. record (book_of b.watches) { kinds = b.kinds.items } };
 
-    ghost invariant = { λ b. AreWatches b.watches };
+    ghost invariant = { λ b. AreWatches b.watches × HaveKinds b.watches b.kinds.items };
 }
 
 impl Book {
     /// A book without clauses, over the atoms below `atoms`. `NoMemory`: memory was refused.
     pub fn new(alloc: Global, atoms: u32) -> Result<Book, NoMemory>
-        requires { atoms ≤ 262144 }
+        requires { atoms ≤ most_atoms }
         ensures empty { IfOk result (λ book. book.clauses ≡ []) }
+        ensures no_kinds { IfOk result (λ book. book.kinds ≡ []) }
         ensures atoms { IfOk result (λ book. book.atoms ≡ atoms) }
     {
         Ok(Book {
             watches: Watches::new(alloc, atoms)?,
+            kinds: Vec::new(alloc),
         })
     }
 
@@ -46,14 +54,115 @@ impl Book {
         requires { IsClause self.old.atoms lits.now }
         ensures number { IfOk result (λ number. number ≡ length self.old.clauses) }
         ensures added { IfOk result (λ _. self.new.clauses ≡ self.old.clauses ++ lits.now ∷ []) }
+        ensures kinds { IfOk result (λ _. self.new.kinds ≡ self.old.kinds ++ no_kind ∷ []) }
         ensures atoms { self.new.atoms ≡ self.old.atoms }
         ensures unchanged { OnErr result (self.new ≡ self.old) }
         ensures goes { (trail : TrailState) → Goes self.old trail → Goes self.new trail }
     {
         let _ = alloc;
+        self.push(lits, FIRM)
+    }
+
+    /// As `add`, and the clause is loose: it goes when the book settles.
+    pub fn add_loose(&mut self, alloc: Global, lits: &[u32]) -> Result<u32, NoMemory>
+        requires { IsClause self.old.atoms lits.now }
+        ensures number { IfOk result (λ number. number ≡ length self.old.clauses) }
+        ensures added { IfOk result (λ _. self.new.clauses ≡ self.old.clauses ++ lits.now ∷ []) }
+        ensures kinds { IfOk result (λ _. self.new.kinds
+            ≡ self.old.kinds ++ (record { learned = false; loose = true; score = 0 }) ∷ []) }
+        ensures atoms { self.new.atoms ≡ self.old.atoms }
+        ensures unchanged { OnErr result (self.new ≡ self.old) }
+        ensures goes { (trail : TrailState) → Goes self.old trail → Goes self.new trail }
+    {
+        let _ = alloc;
+        self.push(lits, LOOSE)
+    }
+
+    /// As `add`, and the clause is a learned one, which can be removed. It is loose or firm, and its score is kept.
+    pub fn add_learned(
+        &mut self,
+        alloc: Global,
+        lits: &[u32],
+        loose: bool,
+        score: u16,
+    ) -> Result<u32, NoMemory>
+        requires { IsClause self.old.atoms lits.now }
+        ensures number { IfOk result (λ number. number ≡ length self.old.clauses) }
+        ensures added { IfOk result (λ _. self.new.clauses ≡ self.old.clauses ++ lits.now ∷ []) }
+        ensures kinds { IfOk result (λ _. self.new.kinds
+            ≡ self.old.kinds ++ (record { learned = true; loose = loose; score = score }) ∷ []) }
+        ensures atoms { self.new.atoms ≡ self.old.atoms }
+        ensures unchanged { OnErr result (self.new ≡ self.old) }
+        ensures goes { (trail : TrailState) → Goes self.old trail → Goes self.new trail }
+    {
+        let _ = alloc;
+        let kind = Kind {
+            learned: true,
+            loose,
+            score,
+        };
+        self.push(lits, kind)
+    }
+
+    /// Appends a clause of this kind.
+    fn push(&mut self, lits: &[u32], kind: Kind) -> Result<u32, NoMemory>
+        requires { IsClause self.old.atoms lits.now }
+        ensures number { IfOk result (λ number. number ≡ length self.old.clauses) }
+        ensures added { IfOk result (λ _. self.new.clauses ≡ self.old.clauses ++ lits.now ∷ []) }
+        ensures kinds { IfOk result (λ _. self.new.kinds ≡ self.old.kinds ++ kind ∷ []) }
+        ensures atoms { self.new.atoms ≡ self.old.atoms }
+        ensures unchanged { OnErr result (self.new ≡ self.old) }
+        ensures goes { (trail : TrailState) → Goes self.old trail → Goes self.new trail }
+    {
+        let count = self.kinds.len();
+        self.kinds.push(kind)?;
         let origin = 2 * self.watches.atoms;
-        let number = self.watches.records.push(lits, origin)?;
-        Ok(number)
+        match self.watches.records.push(lits, origin) {
+            Ok(number) => Ok(number),
+            Err(fault) => {
+                self.kinds.truncate(count);
+                Err(fault)
+            }
+        }
+    }
+
+    /// Removes the loose clauses. The firm ones stay in order, and are numbered from 0.
+    pub fn settle(&mut self, trail: &Trail)
+        requires goes { Goes self.old trail.now }
+        requires empty { trail.now.steps ≡ [] }
+        ensures clauses { self.new.clauses ≡ kept (map is_firm self.old.kinds) self.old.clauses }
+        ensures kinds { self.new.kinds ≡ kept (map is_firm self.old.kinds) self.old.kinds }
+        ensures atoms { self.new.atoms ≡ self.old.atoms }
+        ensures goes { Goes self.new trail.now }
+    {
+        let _ = trail;
+        number_firm(&mut self.watches, self.kinds.as_slice());
+        compact(&mut self.watches, &mut self.kinds);
+    }
+
+    /// Removes the learned clauses that aren't marked to stay and are no reason of a placed literal. The others stay in
+    /// order, and are numbered from 0, also in the trail. Afterwards the marks tell which clauses stayed.
+    pub fn remove(&mut self, trail: &mut Trail, stays: &mut [bool])
+        requires goes { Goes self.old trail.old }
+        requires marks { length stays.old ≡ length self.old.clauses }
+        ensures as_many { length stays.new ≡ length stays.old }
+        ensures only { (clause : ℕ) → clause < length self.old.clauses → mark_of stays.new clause ≡ false
+            → (mark_of stays.old clause ≡ false) × ((kind_at self.old.kinds clause).learned ≡ true)
+            × ¬ IsReason trail.old.steps clause }
+        ensures all { (clause : ℕ) → clause < length self.old.clauses → mark_of stays.old clause ≡ false
+            → (kind_at self.old.kinds clause).learned ≡ true → ¬ IsReason trail.old.steps clause
+            → mark_of stays.new clause ≡ false }
+        ensures clauses { self.new.clauses ≡ kept stays.new self.old.clauses }
+        ensures kinds { self.new.kinds ≡ kept stays.new self.old.kinds }
+        ensures atoms { self.new.atoms ≡ self.old.atoms }
+        ensures trail { trail.new ≡ record trail.old { steps = map (renumbered stays.new) trail.old.steps } }
+        ensures goes { Goes self.new trail.new }
+    {
+        keep_added(stays, self.kinds.as_slice());
+        trail.mark_reasons(stays);
+        number_clauses(&mut self.watches, stays);
+        trail.renumber(&self.watches.records);
+        compact(&mut self.watches, &mut self.kinds);
     }
 
     /// How many clauses there are.
@@ -70,5 +179,14 @@ impl Book {
         ensures clause { IsClause self.now.atoms result.now }
     {
         self.watches.records.literals(clause)
+    }
+
+    /// What is known of the clause besides its literals.
+    pub fn kind(&self, clause: u32) -> Kind
+        requires { clause < length self.now.clauses }
+        ensures value { result ≡ kind_at self.now.kinds clause }
+        ensures as_many { length self.now.kinds ≡ length self.now.clauses }
+    {
+        self.kinds[clause as usize]
     }
 }

@@ -1,4 +1,4 @@
-//! The first look at a new clause: it chooses the literals to watch.
+//! The first look at a new clause: it chooses the two watched literals.
 
 ghost use Rattle.std.specs.Prelude.{◌≡◌, ◌≢◌, ℕ, ◌+◌, ◌*◌, ◌<◌, ◌≤◌, Some, None, false, Ok, IsErr, OnOk, OnErr, length, slice_index};
 ghost use Rattle.asp_clauses.specs.Literal.{negated};

@@ -1,4 +1,4 @@
-//! Unit propagation.
+//! Unit propagation by two watched literals a clause.
 
 ghost use Rattle.std.specs.Prelude.{◌≡◌, ◌≢◌, ℕ, ◌+◌, ◌*◌, ◌<◌, ◌≤◌, ◌⊎◌, List, [], ◌∷◌, Some, None, false, true, Ok, IsErr, length, slice_index, IsTrue};
 ghost use Rattle.asp_clauses.specs.Trail.{IsPlaced, IsFalse, IsUnit, clause_at};
@@ -21,6 +21,7 @@ pub fn propagate(book: &mut Book, trail: &mut Trail) -> Result<Option<u32>, Spen
     requires goes { Goes book.old trail.old }
     ensures goes { Goes book.new trail.new }
     ensures clauses { SameClauses book.old.clauses book.new.clauses }
+    ensures kinds { book.new.kinds ≡ book.old.kinds }
     ensures atoms { book.new.atoms ≡ book.old.atoms }
     ensures extended { Extends trail.old trail.new }
     ensures fixpoint { result ≡ Ok None → IsFixpoint book.new trail.new.steps }

@@ -1,10 +1,13 @@
-//! The arena: a row of words for each clause, all in one flat vector.
+//! The records of clauses. What a visit reads of one lies apart from its other literals, so that most visits read from
+//! one place.
 
-ghost use Rattle.std.specs.Prelude.{◌≡◌, ◌+◌, ◌-◌, ◌<◌, ◌≤◌, ◌^◌, [], ◌∷◌, ◌++◌, length, IfOk, OnErr, slice_index, slice_index_or, slice_set, slice_range, swap};
-ghost use Rattle.asp_clauses.specs.Records.{row_at, record_of, literals_of, end};
+ghost use Rattle.std.specs.Prelude.{◌≡◌, ◌+◌, ◌-◌, ◌<◌, ◌≤◌, ◌^◌, [], ◌∷◌, ◌++◌, length, map, IfOk, OnErr, slice_index, slice_index_or, slice_set, slice_range, swap};
+ghost use Rattle.asp_clauses.specs.Records.{row_at, record_of, literals_of, end, top_for, has_number, linked_top};
+ghost use Rattle.asp_clauses.specs.Kept.{kept, is_kept};
 
 use crate::NoMemory;
-use std::alloc::{AllocError, Global};
+use crate::rows::{FIRST, Rows};
+use std::alloc::Global;
 use std::marker::Model;
 
 /// No clause: the end of a list of watching clauses.
@@ -16,36 +19,46 @@ pub const LINKS: usize = 1;
 /// Where the literals lie in a record, after the links.
 pub const LITERALS: usize = 3;
 
-/// A row is the number of literals, the links of its two watches, and the literals, filled up to two
-/// by the origin.
+/// What a visit reads of a clause: the links of its two watches, and the two watched literals.
+#[derive(Clone, Copy)]
+pub struct Top {
+    /// The clause after this one in the list of the first watched literal; or the clause's new number while clauses are
+    /// removed.
+    pub first_link: u32,
+    /// The clause after this one in the list of the second watched literal.
+    pub second_link: u32,
+    /// The first literal of the row.
+    pub first_watch: u32,
+    /// The second literal of the row.
+    pub second_watch: u32,
+}
+
+/// A record is the number of literals, the links of its two watches, and the literals, filled up to two by the origin.
 #[derive(Drop)]
 pub struct Records {
-    words: Vec<u32>,
-    // Where each row starts, and where the last one ends.
-    starts: Vec<u32>,
+    rows: Rows,
+    tops: Vec<Top>,
 }
 
 impl Model for Records {
     ghost use Rattle.std.specs.Prelude.{List, ℕ};
-    ghost use Rattle.asp_clauses.specs.Rows.{rows_of, AreRows};
+    ghost use Rattle.asp_clauses.specs.Records.{records_of, AreTopped};
 
     ghost Value = { List (List ℕ) };
 
-    ghost view = { λ r. rows_of r.words.items r.starts.items };
+    ghost view = { λ r. records_of r.tops.items r.rows };
 
-    ghost invariant = { λ r. AreRows r.words.items r.starts.items };
+    ghost invariant = { λ r. AreTopped r.tops.items r.rows };
 }
 
 impl Records {
     /// No records. `NoMemory`: memory was refused.
     pub fn new(alloc: Global) -> Result<Self, NoMemory>
-        ensures { IfOk result (λ rows. rows ≡ []) }
+        ensures { IfOk result (λ records. records ≡ []) }
     {
-        let mut starts = Vec::new(alloc);
-        starts.push(0)?;
         Ok(Records {
-            words: Vec::new(alloc),
-            starts,
+            rows: Rows::new(alloc)?,
+            tops: Vec::new(alloc),
         })
     }
 
@@ -54,7 +67,7 @@ impl Records {
         ensures value { result ≡ length self.now }
         ensures numbers { result < 2 ^ 32 }
     {
-        (self.starts.len() - 1) as u32
+        self.rows.len()
     }
 
     /// A word of a clause's record.
@@ -63,30 +76,45 @@ impl Records {
         requires index { index < length (row_at self.now clause) }
         ensures { result ≡ slice_index (row_at self.now clause) index }
     {
-        self.words[self.starts[clause as usize] as usize + index]
+        let top = self.tops[clause as usize];
+        match index {
+            0 => self.rows.cell(clause, 0),
+            1 => top.first_link,
+            2 => top.second_link,
+            3 => top.first_watch,
+            4 => top.second_watch,
+            _ => self.rows.cell(clause, index - 2),
+        }
     }
 
-    /// Changes a word of a clause's record.
-    pub fn set_cell(&mut self, clause: u32, index: usize, value: u32)
+    /// Changes a link in a clause's record.
+    pub fn set_link(&mut self, clause: u32, side: usize, value: u32)
         requires clause { clause < length self.old }
-        requires index { index < length (row_at self.old clause) }
-        ensures { self.new ≡ slice_set self.old clause (slice_set (row_at self.old clause) index value) }
+        requires side { side < 2 }
+        ensures { self.new ≡ slice_set self.old clause (slice_set (row_at self.old clause) (1 + side) value) }
     {
-        let start = self.starts[clause as usize] as usize;
-        self.words[start + index] = value;
+        let top = self.tops[clause as usize];
+        self.tops[clause as usize] = linked(top, side, value);
     }
 
-    /// Exchanges two words of a row.
+    /// Exchanges two literals of a clause.
     pub fn swap(&mut self, clause: u32, i: usize, j: usize)
         requires clause { clause < length self.old }
+        requires literals { (3 ≤ i) × (3 ≤ j) }
         requires first { i < length (row_at self.old clause) }
         requires second { j < length (row_at self.old clause) }
         ensures { self.new ≡ slice_set self.old clause (swap (row_at self.old clause) i j) }
     {
-        let first = self.cell(clause, i);
-        let second = self.cell(clause, j);
-        self.set_cell(clause, i, second);
-        self.set_cell(clause, j, first);
+        self.rows.swap(clause, i - 2, j - 2);
+        let first = self.rows.cell(clause, FIRST);
+        let second = self.rows.cell(clause, FIRST + 1);
+        let top = self.tops[clause as usize];
+        self.tops[clause as usize] = Top {
+            first_link: top.first_link,
+            second_link: top.second_link,
+            first_watch: first,
+            second_watch: second,
+        };
     }
 
     /// The literals of a clause.
@@ -95,9 +123,15 @@ impl Records {
         requires size { LITERALS + slice_index (row_at self.now clause) 0 ≤ length (row_at self.now clause) }
         ensures { result.now ≡ literals_of (row_at self.now clause) }
     {
-        let start = self.starts[clause as usize] as usize;
-        let size = self.words[start] as usize;
-        &self.words[start + LITERALS..start + LITERALS + size]
+        self.rows.literals(clause)
+    }
+
+    /// Removes the records without a number, which stands in place of the first link. The others stay in order.
+    pub fn compact(&mut self)
+        ensures { self.new ≡ kept (map is_kept self.old) self.old }
+    {
+        self.rows.compact(self.tops.as_slice());
+        keep_tops(&mut self.tops);
     }
 
     /// Appends a record and answers its number.
@@ -107,31 +141,66 @@ impl Records {
         ensures numbers { IfOk result (λ number. number < end) }
         ensures err { OnErr result (self.new ≡ self.old) }
     {
-        let start = self.words.len();
-        let number = self.starts.len() - 1;
-        let room = (END as usize).saturating_sub(start + LITERALS + 2);
-        if literals.len() >= room || number >= END as usize {
-            return Err(AllocError);
+        let count = self.tops.len();
+        self.tops.push(new_top(literals, origin))?;
+        match self.rows.push(literals, origin) {
+            Ok(number) => Ok(number),
+            Err(fault) => {
+                self.tops.truncate(count);
+                Err(fault)
+            }
         }
-        let end = start + LITERALS + literals.len().max(2);
-        let written = write_record(&mut self.words, literals, origin);
-        if written.is_ok() && self.starts.push(end as u32).is_ok() {
-            return Ok(number as u32);
-        }
-        self.words.truncate(start);
-        Err(AllocError)
     }
 }
 
-/// Appends the words of a record; where memory is refused, a part of them.
-fn write_record(words: &mut Vec<u32>, literals: &[u32], origin: u32) -> Result<(), NoMemory>
-    requires { length literals.now < 2 ^ 32 }
-    ensures ok { IfOk result (λ _. words.new.items ≡ words.old.items ++ record_of origin literals.now) }
-    ensures err { slice_range words.new.items 0 (length words.old.items) ≡ words.old.items }
+/// With another link on one side.
+fn linked(top: Top, side: usize, value: u32) -> Top
+    ensures { result ≡ linked_top top side value }
 {
-    words.extend_from_slice(&[literals.len() as u32, END, END])?;
-    words.extend_from_slice(literals)?;
-    let filling = [origin, origin];
-    words.extend_from_slice(&filling[literals.len().min(2)..])?;
-    Ok(())
+    if side == 0 {
+        Top {
+            first_link: value,
+            ..top
+        }
+    } else {
+        Top {
+            second_link: value,
+            ..top
+        }
+    }
+}
+
+/// What a visit reads of a clause that stands in no list.
+fn new_top(literals: &[u32], origin: u32) -> Top
+    ensures { result ≡ top_for origin literals.now }
+{
+    Top {
+        first_link: END,
+        second_link: END,
+        first_watch: if literals.is_empty() {
+            origin
+        } else {
+            literals[0]
+        },
+        second_watch: if literals.len() < 2 {
+            origin
+        } else {
+            literals[1]
+        },
+    }
+}
+
+/// Removes what is kept for visits of the clauses without a number.
+fn keep_tops(tops: &mut Vec<Top>)
+    ensures { tops.new.items ≡ kept (map has_number tops.old.items) tops.old.items }
+{
+    let mut count = 0;
+    for clause in 0..tops.len() {
+        let top = tops[clause];
+        if top.first_link != END {
+            tops[count] = top;
+            count += 1;
+        }
+    }
+    tops.truncate(count);
 }

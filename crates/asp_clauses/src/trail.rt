@@ -1,14 +1,17 @@
 //! The trail: literals in the order in which they were placed.
 
-ghost use Rattle.std.specs.Prelude.{◌≡◌, ◌≢◌, ◌↔◌, ℕ, ◌+◌, ◌-◌, ◌*◌, ◌/◌, ◌^◌, ◌<◌, ◌≤◌, [], ◌∷◌, ◌++◌, length, take, Some, None, true, false, IfOk, OnOk, OnErr, IsErr, IsTrue, slice_index_or};
+ghost use Rattle.std.specs.Prelude.{◌≡◌, ◌≢◌, ◌↔◌, ℕ, ◌+◌, ◌-◌, ◌*◌, ◌/◌, ◌^◌, ◌<◌, ◌≤◌, [], ◌∷◌, ◌++◌, length, map, take, Some, None, true, false, IfOk, OnOk, OnErr, IsErr, IsTrue, slice_index_or};
 ghost use Rattle.asp_clauses.specs.Trail.{IsValue, IsUnassigned, IsPlaced, StandsAt, literal_at, step_at, level_at, decisions, number, Implies, clause_at, back_to, no_step, mark_at};
 ghost use Rattle.asp_clauses.specs.Book.{BookState, Goes, IsGuarded, visit_at};
-ghost use Rattle.asp_clauses.specs.Literal.{negated};
+ghost use Rattle.asp_clauses.specs.Kept.{IsReason, MarksReasons, relabelled};
+ghost use Rattle.asp_clauses.specs.Literal.{negated, most_atoms};
+ghost use Rattle.asp_clauses.specs.Records.{AreLong};
 ghost use Rattle.asp_clauses.specs.Moves.{Places, Lowers, NextVisit, placed, gone_back, IsCleared, IsOutside, lowered, IsOpen};
 
 use crate::NoMemory;
 use crate::book::Book;
 use crate::literal::negation;
+use crate::records::{LINKS, Records};
 use std::alloc::Global;
 use std::marker::Model;
 use thiserror::Error;
@@ -73,7 +76,7 @@ impl Model for Trail {
 impl Trail {
     /// An empty trail over the atoms below `atoms`, with all the memory that it will need. `NoMemory`: it was refused.
     pub fn new(alloc: Global, atoms: u32, budget: u64) -> Result<Trail, NoMemory>
-        requires { atoms ≤ 262144 }
+        requires { atoms ≤ most_atoms }
         ensures empty { IfOk result (λ trail. trail.steps ≡ []) }
         ensures count { IfOk result (λ trail. trail.count ≡ 0) }
         ensures atoms { IfOk result (λ trail. trail.atoms ≡ atoms) }
@@ -351,6 +354,23 @@ impl Trail {
         self.count += 1;
     }
 
+    /// Has the clauses stay that are the reason of a placed literal.
+    pub(crate) fn mark_reasons(&self, stays: &mut [bool])
+        requires { (clause : ℕ) → IsReason self.now.steps clause → clause < length stays.old }
+        ensures { MarksReasons self.now.steps (length self.now.steps) stays.old stays.new }
+    {
+        mark_reasons(stays, &self.steps, self.len);
+    }
+
+    /// Gives each reason the number that stands in its record.
+    pub(crate) fn renumber(&mut self, records: &Records)
+        requires reasons { (clause : ℕ) → IsReason self.old.steps clause → clause < length records.now }
+        requires long { AreLong records.now }
+        ensures { self.new ≡ record self.old { steps = map (relabelled records.now) self.old.steps } }
+    {
+        relabel(&mut self.steps, self.len, records);
+    }
+
     /// Takes back all literals from the decision after the first `level` on.
     fn go_back(&mut self, level: u32)
         requires { level < decisions self.old.steps }
@@ -361,6 +381,38 @@ impl Trail {
         self.len = mark.start;
         self.decisions = level;
         self.head = mark.head;
+    }
+}
+
+/// Has the clauses stay that are reasons of the first steps.
+fn mark_reasons(stays: &mut [bool], steps: &[Step], len: u32)
+    requires within { len ≤ length steps.now }
+    requires reasons { (clause : ℕ) → IsReason (take len steps.now) clause → clause < length stays.old }
+    ensures { MarksReasons (take len steps.now) len stays.old stays.new }
+{
+    for place in 0..len {
+        if let Some(clause) = steps[place as usize].reason {
+            stays[clause as usize] = true;
+        }
+    }
+}
+
+/// Gives each reason among the first steps the number that stands in its record.
+fn relabel(steps: &mut [Step], len: u32, records: &Records)
+    requires within { len ≤ length steps.old }
+    requires reasons { (clause : ℕ) → IsReason (take len steps.old) clause → clause < length records.now }
+    requires long { AreLong records.now }
+    ensures as_many { length steps.new ≡ length steps.old }
+    ensures steps { take len steps.new ≡ map (relabelled records.now) (take len steps.old) }
+{
+    for place in 0..len {
+        let step = steps[place as usize];
+        if let Some(clause) = step.reason {
+            steps[place as usize] = Step {
+                literal: step.literal,
+                reason: Some(records.cell(clause, LINKS)),
+            };
+        }
     }
 }
 

@@ -1,10 +1,11 @@
-//! The lists of watching clauses.
+//! The two watched literals of each clause.
 //!
 //! Each literal has a list of the clauses that watch it. The head lies in a vector, and the link to
 //! the next clause lies in the record of the clause before it.
 
-ghost use Rattle.std.specs.Prelude.{◌≡◌, ◌≢◌, ℕ, ◌+◌, ◌-◌, ◌*◌, ◌<◌, ◌≤◌, ◌⊎◌, List, [], length, slice_index, slice_index_or, slice_set, OnErr, IfOk};
-ghost use Rattle.asp_clauses.specs.Watches.{AreWatches, IsListed, IsStore, side_of, link_of, WatchingBelow, Watching};
+ghost use Rattle.std.specs.Prelude.{◌≡◌, ◌≢◌, ℕ, ◌+◌, ◌-◌, ◌*◌, ◌<◌, ◌≤◌, ◌^◌, ◌⊎◌, List, [], length, slice_index, slice_index_or, slice_set, OnErr, IfOk};
+ghost use Rattle.asp_clauses.specs.Literal.{most_atoms};
+ghost use Rattle.asp_clauses.specs.Watches.{AreWatches, IsRecord, IsListed, IsStore, side_of, link_of, WatchingBelow, Watching};
 ghost use Rattle.asp_clauses.specs.Records.{row_at, end};
 ghost use Rattle.asp_clauses.specs.Visits.{IsAt, MovesWatch, Links, Unlinks, WatchesOneMore, moved, other_watch};
 
@@ -28,7 +29,7 @@ pub struct Watches {
 impl Watches {
     /// No clauses, over the atoms below `atoms`.
     pub fn new(alloc: Global, atoms: u32) -> Result<Self, NoMemory>
-        requires { atoms ≤ 262144 }
+        requires { atoms ≤ most_atoms }
         ensures empty { IfOk result (λ watches. watches.records ≡ []) }
         ensures atoms { IfOk result (λ watches. watches.atoms ≡ atoms) }
         ensures watched { IfOk result (λ watches. watches.watched ≡ 0) }
@@ -83,9 +84,24 @@ impl Watches {
         ensures { Links self.old self.new clause side }
     {
         let literal = self.records.cell(clause, LITERALS + side) as usize;
-        self.records
-            .set_cell(clause, LINKS + side, self.heads[literal]);
+        self.records.set_link(clause, side, self.heads[literal]);
         self.heads[literal] = clause;
+    }
+
+    /// Empties all lists, so that no clause is watched.
+    pub fn unlink_all(&mut self)
+        requires few { self.old.atoms ≤ most_atoms }
+        requires heads { length self.old.heads.items ≡ 2 * self.old.atoms + 1 }
+        requires rows { length self.old.records < 2 ^ 32 }
+        requires records { (clause : ℕ) → clause < length self.old.records
+            → IsRecord self.old.atoms (row_at self.old.records clause) }
+        ensures watches { AreWatches self.new }
+        ensures atoms { self.new.atoms ≡ self.old.atoms }
+        ensures records { self.new.records ≡ self.old.records }
+        ensures watched { self.new.watched ≡ 0 }
+    {
+        self.heads.fill(END);
+        self.watched = 0;
     }
 
     /// Takes the clause out of the list of the literal, where it comes after `previous`.
@@ -101,7 +117,7 @@ impl Watches {
             self.heads[literal as usize] = next;
         } else {
             let side = self.side(previous, literal);
-            self.records.set_cell(previous, LINKS + side, next);
+            self.records.set_link(previous, side, next);
         }
     }
 

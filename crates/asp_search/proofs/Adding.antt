@@ -7,7 +7,7 @@ use Rattle.asp_clauses.specs.Literal.{negated}
 use Rattle.asp_clauses.specs.Book.{IsClause}
 use Rattle.asp_search.specs.declared.solver.Solver.{Solver}
 use Rattle.asp_search.specs.Meaning.{truth, AddsClause}
-use Rattle.asp_search.specs.Marks.{AreCodes, AreDistinct}
+use Rattle.asp_search.specs.Seen.{AreCodes, AreDistinct}
 use Rattle.asp_search.specs.Solver.{IsReady}
 use Rattle.asp_search.specs.Clause.{IsTautology, Collects, KeepsBook}
 use Rattle.asp_clauses.proofs.LiteralLemmas.{negated-negated, negated-≢, same_half}
@@ -94,17 +94,18 @@ AddsClause-tautology clauses clause t = record {
   atoms = λ atom m. inl m;
 }
 
-pub IsReady-book : (old new : Solver) → IsReady old → KeepsBook old new → new.marks.marked ≡ [] → IsReady new
+pub IsReady-book : (old new : Solver) → IsReady old → KeepsBook old new → new.seen.marked ≡ [] → IsReady new
 IsReady-book old new ready k unmarked = record {
   fitted = record {
     goes = k.goes;
     few = rw k.trail ready.fitted.few;
     codes = rw k.trail (k.codes ∙ ready.fitted.codes);
-    ordered = rw (k.order, k.trail) ready.fitted.ordered;
+    heap_atoms = rw (k.heap, k.trail) ready.fitted.heap_atoms;
   };
   ranges = k.ranges;
+  learned = k.learned;
   unmarked = unmarked;
   assumptions = rw (k.trail, k.assumed) ready.assumptions;
   assumed = rw (k.trail, k.assumed) ready.assumed;
-  cursor = rw (k.trail, k.assumed, k.cursor) ready.cursor;
+  cursor = rw (k.trail, k.assumed, k.cursor, k.held) ready.cursor;
 }

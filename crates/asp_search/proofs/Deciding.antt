@@ -5,7 +5,7 @@ use Rattle.std.proofs.lemmas.List.{get_or_push, length_push, length-map, get_or-
 use Rattle.std.proofs.lemmas.Bool.{cases_lt, not_from_false}
 use Rattle.asp_clauses.specs.declared.trail.Step.{Step}
 use Rattle.asp_clauses.specs.Literal.{negated}
-use Rattle.asp_clauses.specs.Trail.{no_step, literal_at, IsPlaced, IsUnassigned, IsFalse, clause_at}
+use Rattle.asp_clauses.specs.Trail.{no_step, literal_at, decisions, IsPlaced, IsUnassigned, IsFalse, clause_at}
 use Rattle.asp_clauses.specs.Book.{BookState}
 use Rattle.asp_clauses.specs.Choices.{IsFixpoint}
 use Rattle.asp_search.specs.Meaning.{truth, SatisfiesAll}
@@ -18,27 +18,35 @@ use Rattle.asp_search.proofs.Trails.{level_at-le-decisions}
 use Rattle.asp_search.proofs.Counting.{member-Contains, not_member}
 use Rattle.asp_clauses.proofs.ReorderLemmas.{Contains-place}
 use Rattle.asp_clauses.proofs.FewLemmas.{not_both}
-use Rattle.asp_search.proofs.Stepping.{Begins-append, level_at-begins, decisions-push-le}
+use Rattle.asp_search.proofs.Stepping.{Begins-append, level_at-begins, decisions-push-le, IsHeld-begins}
 
 -- ---- the cursor
 
 -- over an assumption that is true
-pub IsCursor-more : (assumed : List ℕ) (steps : List Step) (cursor : ℕ) → cursor < length assumed → IsPlaced steps (get_or assumed cursor 0) → IsCursor assumed steps cursor → IsCursor assumed steps (cursor + 1)
-IsCursor-more assumed steps cursor inside placed c = record {
+pub IsCursor-more : (assumed : List ℕ) (steps : List Step) (cursor held : ℕ) → cursor < length assumed → IsPlaced steps (get_or assumed cursor 0) → IsCursor assumed steps cursor held → IsCursor assumed steps (cursor + 1) (decisions steps)
+IsCursor-more assumed steps cursor held inside placed c = record {
   within = omega (arith, inside);
   placed = λ i h.
       ⊎_elim
-      (λ (b : i < cursor). c.placed i b)
+      (λ (b : i < cursor).
+      let q = c.placed i b in
+      record { place = q.place; within = q.within; is = q.is; level = q.level; by_held = level_at-le-decisions steps q.place })
       (λ (u : cursor ≤ i).
       let e : cursor ≡ i = omega (arith, h, u) in
-      (placed.0, placed.1, placed.2 ∙ ap (λ (k : ℕ). get_or assumed k 0) e, omega (arith, level_at-le-decisions steps placed.0, c.decided inside, e)))
+      record {
+        place = placed.0;
+        within = placed.1;
+        is = placed.2 ∙ ap (λ (k : ℕ). get_or assumed k 0) e;
+        level = omega (arith, level_at-le-decisions steps placed.0, c.decided inside, e);
+        by_held = level_at-le-decisions steps placed.0;
+      })
       (cases_lt i cursor);
   decided = λ h. omega (arith, c.decided inside);
 }
 
 -- over an assumption that was just decided
-pub IsCursor-decided : (assumed : List ℕ) (old : List Step) (step : Step) (cursor : ℕ) → cursor < length assumed → get_or assumed cursor 0 ≡ step.literal → IsCursor assumed old cursor → IsCursor assumed (old ++ step ∷ []) (cursor + 1)
-IsCursor-decided assumed old step cursor inside is c =
+pub IsCursor-decided : (assumed : List ℕ) (old : List Step) (step : Step) (cursor held : ℕ) → cursor < length assumed → get_or assumed cursor 0 ≡ step.literal → IsCursor assumed old cursor held → IsCursor assumed (old ++ step ∷ []) (cursor + 1) (decisions (old ++ step ∷ []))
+IsCursor-decided assumed old step cursor held inside is c =
     let new = old ++ step ∷ [] in
     let b = Begins-append old (step ∷ []) in
     record {
@@ -47,36 +55,42 @@ IsCursor-decided assumed old step cursor inside is c =
           ⊎_elim
           (λ (low : i < cursor).
           let q = c.placed i low in
-          (q.0, omega (arith, q.1, length_push old step), ap (λ (s : Step). s.literal) (b.same q.0 q.1) ∙ q.2, omega (arith, q.3, level_at-begins old new (length old) q.0 b q.1)))
+          record {
+            place = q.place;
+            within = omega (arith, q.within, length_push old step);
+            is = ap (λ (s : Step). s.literal) (b.same q.place q.within) ∙ q.is;
+            level = omega (arith, q.level, level_at-begins old new (length old) q.place b q.within);
+            by_held = level_at-le-decisions new q.place;
+          })
           (λ (u : cursor ≤ i).
-          let e : cursor ≡ i = omega (arith, h, u) in (
-            length old,
-            omega (arith, length_push old step),
-            ap (λ (s : Step). s.literal) (get_or_push old step no_step (length old) refl) ∙ (sym is ∙ ap (λ (k : ℕ). get_or assumed k 0) e),
-            omega (arith, level_at-le-decisions new (length old), decisions-push-le old step, c.decided inside, e),
-          ))
+          let e : cursor ≡ i = omega (arith, h, u) in
+          record {
+            place = length old;
+            within = omega (arith, length_push old step);
+            is = ap (λ (s : Step). s.literal) (get_or_push old step no_step (length old) refl) ∙ (sym is ∙ ap (λ (k : ℕ). get_or assumed k 0) e);
+            level = omega (arith, level_at-le-decisions new (length old), decisions-push-le old step, c.decided inside, e);
+            by_held = level_at-le-decisions new (length old);
+          })
           (cases_lt i cursor);
       decided = λ h. omega (arith, decisions-push-le old step, c.decided inside);
     }
 
 -- past all assumptions
-pub IsCursor-past : (assumed : List ℕ) (old : List Step) (step : Step) (cursor : ℕ) → length assumed ≤ cursor → IsCursor assumed old cursor → IsCursor assumed (old ++ step ∷ []) cursor
-IsCursor-past assumed old step cursor past c =
+pub IsCursor-past : (assumed : List ℕ) (old : List Step) (step : Step) (cursor held : ℕ) → length assumed ≤ cursor → IsCursor assumed old cursor held → IsCursor assumed (old ++ step ∷ []) cursor held
+IsCursor-past assumed old step cursor held past c =
     let new = old ++ step ∷ [] in
     let b = Begins-append old (step ∷ []) in
     record {
       within = c.within;
-      placed = λ i h.
-          let q = c.placed i h in
-          (q.0, omega (arith, q.1, length_push old step), ap (λ (s : Step). s.literal) (b.same q.0 q.1) ∙ q.2, omega (arith, q.3, level_at-begins old new (length old) q.0 b q.1));
+      placed = λ i h. IsHeld-begins assumed old new (length old) held i b (c.placed i h) (c.placed i h).within;
       decided = λ h. absurd (omega (arith, h, past));
     }
 
-pub all_true-past : (assumed : List ℕ) (steps : List Step) (cursor : ℕ) → length assumed ≤ cursor → IsCursor assumed steps cursor → (literal : ℕ) → Contains assumed literal → IsPlaced steps literal
-all_true-past assumed steps cursor past c literal has =
+pub all_true-past : (assumed : List ℕ) (steps : List Step) (cursor held : ℕ) → length assumed ≤ cursor → IsCursor assumed steps cursor held → (literal : ℕ) → Contains assumed literal → IsPlaced steps literal
+all_true-past assumed steps cursor held past c literal has =
     let k = Contains-place assumed literal has in
     let q = c.placed k.0 (omega (arith, k.1, past)) in
-    (q.0, q.1, q.2 ∙ k.2)
+    (q.place, q.within, q.is ∙ k.2)
 
 -- ---- what is unassigned
 

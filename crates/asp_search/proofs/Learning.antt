@@ -6,15 +6,15 @@ use Rattle.std.proofs.lemmas.List.Elements.{Contains-append_left, Contains-push}
 use Rattle.std.proofs.lemmas.Bool.{cases_lt}
 use Rattle.asp_clauses.specs.declared.trail.Step.{Step}
 use Rattle.asp_clauses.specs.Literal.{negated}
-use Rattle.asp_clauses.specs.Trail.{literal_at, level_at, IsLawful}
+use Rattle.asp_clauses.specs.Trail.{literal_at, level_at, IsLawful, IsPlaced, back_to}
 use Rattle.asp_search.specs.Meaning.{Mentions}
-use Rattle.asp_search.specs.Marks.{AreDistinct}
+use Rattle.asp_search.specs.Seen.{AreDistinct}
 use Rattle.asp_search.specs.Analysis.{IsCut, IsTaken, IsLearning, IsLearned, IsPassed, IsAdded, Takes, IsRedundant}
 use Rattle.asp_clauses.proofs.LiteralLemmas.{negated-half, negated-negated, negated-lt}
-use Rattle.asp_search.proofs.Trails.{level_at-le, level_at-le-decisions, placed_back, unassigned_back}
+use Rattle.asp_search.proofs.Trails.{level_at-le, back_to-within, back_to-step, back_to-level, placed_back, unassigned_back}
 use Rattle.asp_search.proofs.Resolution.{learned_follows}
 use Rattle.asp_clauses.proofs.ReorderLemmas.{Contains-place, Contains-at}
-use Rattle.asp_search.proofs.Blaming.{same_place, same_place-literal}
+use Rattle.asp_search.proofs.Marking.{same_place, same_place-literal}
 
 module _ (atoms : ℕ) (clauses : List (List ℕ)) (steps : List Step) (lawful : IsLawful atoms clauses steps) (marked : List ℕ) (level place : ℕ) (cut : IsCut clauses steps marked level place) where
   -- the clause begins with the negation of the cut's literal
@@ -142,7 +142,7 @@ module _ (atoms : ℕ) (clauses : List (List ℕ)) (steps : List Step) (lawful :
         (λ (h : Contains learned (negated (get_or marked k.0 0))). inl (subst (λ (l : ℕ). Contains learned (negated l)) k.2 h))
         (λ (r : IsRedundant clauses steps marked p). inr r)
         (learning.treated k.0 p k.1 before (sym k.2)));
-    lower = omega (arith, learning.below, cut.at_level, level_at-le-decisions steps place);
+    lower = omega (arith, learning.below, cut.at_level);
     code = negated-lt (literal_at steps place) atoms (lawful.in_range place cut.within);
     implies = record {
       has = learning.has;
@@ -167,3 +167,26 @@ module _ (atoms : ℕ) (clauses : List (List ℕ)) (steps : List Step) (lawful :
         subst (λ (x : ℕ). Mentions clauses x) half (cut.mentions (get_or marked t.k 0) (Contains-at marked t.k t.before)))
         (learning.each a.0 a.1);
   }
+
+-- what is placed up to a level is placed up to a higher one
+placed_higher : (steps : List Step) (target level literal : ℕ) → target ≤ level → IsPlaced (back_to target steps) literal → IsPlaced (back_to level steps) literal
+placed_higher steps target level literal up p =
+    let within : p.0 < length steps = back_to-within target steps p.0 p.1 in
+    let read : literal_at steps p.0 ≡ literal = ap (λ (s : Step). s.literal) (sym (back_to-step target steps p.0 p.1)) ∙ p.2 in
+    subst (λ (l : ℕ). IsPlaced (back_to level steps) l) read (placed_back level steps p.0 within (omega (arith, back_to-level target steps p.0 p.1, up)))
+
+-- the clause implies its literal too where the trail goes back less far, but behind the literal's level
+pub IsLearned-higher : (atoms : ℕ) (clauses : List (List ℕ)) (steps : List Step) → IsLawful atoms clauses steps → (learned : List ℕ) (place target level : ℕ) → place < length steps → target ≤ level → level < level_at steps place
+    → IsLearned atoms clauses steps learned place target → IsLearned atoms clauses steps learned place level
+IsLearned-higher atoms clauses steps lawful learned place target level within up below l = record {
+  clause = l.clause;
+  follows = l.follows;
+  lower = below;
+  code = l.code;
+  implies = record {
+    has = l.implies.has;
+    others_fail = λ other c ne. placed_higher steps target level (negated other) up (l.implies.others_fail other c ne);
+  };
+  unassigned = unassigned_back atoms clauses level steps place lawful within below;
+  mentions = l.mentions;
+}

@@ -2,8 +2,11 @@ pub mod Truth
 pub mod Trails
 pub mod Resolution
 pub mod Counting
-pub mod MarkTables
-pub mod Blaming
+pub mod SeenTables
+pub mod Marking
+pub mod LearnedClauses
+pub mod Dropping
+pub mod Minimizing
 pub mod Learning
 pub mod Clauses
 pub mod Stepping

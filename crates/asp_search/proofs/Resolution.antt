@@ -49,27 +49,27 @@ module _ (atoms : ℕ) (clauses : List (List ℕ)) (steps : List Step) (lawful :
   -- a false clause
   pub Refutes-conflict : (number : ℕ) (marked : List ℕ) → number < length clauses → IsFalse steps (clause_at clauses number) → Covers steps marked (clause_at clauses number) → Refutes clauses steps marked (length steps) []
   Refutes-conflict number marked within fails covers = record {
-    none = λ v sat marks kept. false_unsatisfied v (clause_at clauses number) (sat number within) (λ other c.
+    none = λ v sat seen kept. false_unsatisfied v (clause_at clauses number) (sat number within) (λ other c.
         let placed = fails other c in
         ⊎_elim
         (λ (f : IsFixed steps (negated other)). fixed_true v sat (negated other) f)
-        (λ (m : Contains marked (negated other)). subst (λ (l : ℕ). truth v l ≡ true) placed.2 (marks placed.0 placed.1 placed.1 (subst (λ (l : ℕ). Contains marked l) (sym placed.2) m)))
+        (λ (m : Contains marked (negated other)). subst (λ (l : ℕ). truth v l ≡ true) placed.2 (seen placed.0 placed.1 placed.1 (subst (λ (l : ℕ). Contains marked l) (sym placed.2) m)))
         (covers other c placed));
   }
 
   -- an implied literal is resolved with its reason
   pub Refutes-resolved : (marked more kept : List ℕ) (place number : ℕ) → place < length steps → (step_at steps place).reason ≡ Some number → ((literal : ℕ) → Contains marked literal → Contains more literal) → Covers steps more (clause_at clauses number) → Refutes clauses steps marked (suc place) kept → Refutes clauses steps more place kept
   Refutes-resolved marked more kept place number within reason grows covers refutes = record {
-    none = λ v sat marks all. refutes.none v sat (λ p below inside m.
+    none = λ v sat seen all. refutes.none v sat (λ p below inside m.
         ⊎_elim
-        (λ (lower : p < place). marks p lower inside (grows _ m))
+        (λ (lower : p < place). seen p lower inside (grows _ m))
         (λ (upper : place ≤ p).
         let same : p ≡ place = omega (arith, below, upper) in
         subst (λ (x : ℕ). truth v (literal_at steps x) ≡ true) (sym same) (implied_true v sat place number within reason (λ other c ne placed.
         let b = placed_before steps place (negated other) placed in
         ⊎_elim
         (λ (f : IsFixed steps (negated other)). fixed_true v sat (negated other) f)
-        (λ (n : Contains more (negated other)). subst (λ (l : ℕ). truth v l ≡ true) b.3 (marks b.0 b.1 b.2 (subst (λ (l : ℕ). Contains more l) (sym b.3) n)))
+        (λ (n : Contains more (negated other)). subst (λ (l : ℕ). truth v l ≡ true) b.3 (seen b.0 b.1 b.2 (subst (λ (l : ℕ). Contains more l) (sym b.3) n)))
         (covers other c (b.0, b.2, b.3)))))
         (cases_lt p place)) all;
   }
@@ -77,9 +77,9 @@ module _ (atoms : ℕ) (clauses : List (List ℕ)) (steps : List Step) (lawful :
   -- a literal that is not marked is passed over
   pub Refutes-passed : (marked kept : List ℕ) (place : ℕ) → (Contains marked (literal_at steps place) → ⊥) → Refutes clauses steps marked (suc place) kept → Refutes clauses steps marked place kept
   Refutes-passed marked kept place unmarked refutes = record {
-    none = λ v sat marks all. refutes.none v sat (λ p below inside m.
+    none = λ v sat seen all. refutes.none v sat (λ p below inside m.
         ⊎_elim
-        (λ (lower : p < place). marks p lower inside m)
+        (λ (lower : p < place). seen p lower inside m)
         (λ (upper : place ≤ p).
         let same : p ≡ place = omega (arith, below, upper) in
         absurd (unmarked (subst (λ (x : ℕ). Contains marked (literal_at steps x)) same m)))
@@ -89,9 +89,9 @@ module _ (atoms : ℕ) (clauses : List (List ℕ)) (steps : List Step) (lawful :
   -- a decision is kept
   pub Refutes-kept : (marked kept : List ℕ) (place : ℕ) → Refutes clauses steps marked (suc place) kept → Refutes clauses steps marked place (kept ++ literal_at steps place ∷ [])
   Refutes-kept marked kept place refutes = record {
-    none = λ v sat marks all. refutes.none v sat (λ p below inside m.
+    none = λ v sat seen all. refutes.none v sat (λ p below inside m.
         ⊎_elim
-        (λ (lower : p < place). marks p lower inside m)
+        (λ (lower : p < place). seen p lower inside m)
         (λ (upper : place ≤ p).
         let same : p ≡ place = omega (arith, below, upper) in
         subst (λ (x : ℕ). truth v (literal_at steps x) ≡ true) (sym same) (all (literal_at steps place) (Contains-push kept (literal_at steps place))))

@@ -2,9 +2,9 @@
 use Rattle.std.proofs.Common.{◌≡◌, ℕ, suc, ◌+◌, ◌-◌, ◌*◌, ◌/◌, min, ◌<◌, ◌≤◌, ◌⊎◌, true, false, cond, List, [], ◌∷◌, ◌++◌, length, take, refl, sym, ap, ◌∙◌, subst, ⊎_elim, inl, inr, arith}
 use Rattle.std.specs.List.{Contains}
 use Rattle.std.proofs.lemmas.List.{get_or_append_left, get_or_push, length_push, length-take, take_all, get_or-take, ext_get_or, length-append, get_or-append_right}
-use Rattle.std.proofs.lemmas.List.Sums.{sum_by_push, sum_by-append, sum_by-cons}
+use Rattle.std.proofs.lemmas.List.Sums.{sum_by-append, sum_by-cons}
 use Rattle.std.proofs.lemmas.List.Sorted.{Contains-permutation, IsPermutation-sym}
-use Rattle.std.proofs.lemmas.Bool.{cases_lt, cases_Bool, cond-false, cond-true, false≢true}
+use Rattle.std.proofs.lemmas.Bool.{cases_lt, cases_Bool, cond-false, false≢true}
 use Rattle.asp_clauses.specs.declared.trail.Step.{Step}
 use Rattle.asp_clauses.specs.Literal.{negated}
 use Rattle.asp_clauses.specs.Trail.{TrailState, no_step, step_at, literal_at, is_decision, decisions, level_at, IsPlaced, IsFalse, IsLawful, clause_at, back_to}
@@ -16,11 +16,12 @@ use Rattle.asp_search.specs.declared.solver.Solver.{Solver}
 use Rattle.asp_search.specs.Meaning.{SameMeaning}
 use Rattle.asp_search.specs.Cores.{IsCore}
 use Rattle.asp_search.specs.Analysis.{IsTopLevel}
-use Rattle.asp_search.specs.Solver.{DecidesAssumed, IsCursor, IsReady, AreInRange, AreRefuted, Stays}
+use Rattle.asp_search.specs.Solver.{DecidesAssumed, IsHeld, IsCursor, IsRewound, IsReady, AreInRange, AreRefuted, Stays}
 use Rattle.asp_search.proofs.Clauses.{SameMeaning-refl, SameMeaning-then, SameMeaning-reordered}
 use Rattle.asp_search.proofs.Trails.{kept_place, back_to-within, back_to-step, decisions-back_to}
 use Rattle.asp_clauses.proofs.ReorderLemmas.{Contains-place}
 use Rattle.asp_search.proofs.Resolution.{fixed_true, false_unsatisfied}
+use Rattle.asp_search.proofs.LearnedClauses.{AreLearned-reordered}
 
 -- both lists have the same first steps
 pub record Begins (old new : List Step) (n : ℕ) : Type 0 where
@@ -101,46 +102,64 @@ decisions-push-le steps step =
     (λ (f : is_decision step ≡ false). omega (arith, decisions-push_no steps step f))
     (cases_Bool (is_decision step))
 
--- the lower of two numbers
-pub record IsLower (a b lower : ℕ) : Type 0 where
-  pub left : lower ≤ a
-  pub right : lower ≤ b
-  pub one : (lower ≡ a) ⊎ (lower ≡ b)
-
-pub min-lower : (a b : ℕ) → IsLower a b (min a b)
-min-lower a b = record {
-  left = omega arith;
-  right = omega arith;
-  one = ⊎_elim (λ (h : b < a). inr (omega (arith, h))) (λ (h : a ≤ b). inl (omega (arith, h))) (cases_lt b a);
+-- an assumption that is true by the first steps stays so where these stay
+pub IsHeld-begins : (assumed : List ℕ) (old new : List Step) (n held i : ℕ) → Begins old new n → (h : IsHeld assumed old held i) → h.place < n → IsHeld assumed new held i
+IsHeld-begins assumed old new n held i b h low = record {
+  place = h.place;
+  within = omega (arith, low, b.fits);
+  is = ap (λ (s : Step). s.literal) (b.same h.place low) ∙ h.is;
+  level = omega (arith, h.level, level_at-begins old new n h.place b low);
+  by_held = omega (arith, h.by_held, level_at-begins old new n h.place b low);
 }
 
--- the cursor after a jump
-pub IsCursor-back : (assumed : List ℕ) (old : List Step) (step : Step) (cursor level lower : ℕ) → is_decision step ≡ false → level < decisions old → IsLower cursor level lower → IsCursor assumed old cursor → IsCursor assumed (back_to level old ++ step ∷ []) lower
-IsCursor-back assumed old step cursor level lower implied above low c =
+-- the cursor after a jump to a level that keeps the assumptions before it
+pub IsCursor-kept : (assumed : List ℕ) (old : List Step) (step : Step) (cursor held level : ℕ) → is_decision step ≡ false → level < decisions old → held ≤ level → IsCursor assumed old cursor held → IsCursor assumed (back_to level old ++ step ∷ []) cursor held
+IsCursor-kept assumed old step cursor held level implied above keeps c =
     let new = back_to level old ++ step ∷ [] in
     let b = Begins-back level old step in
-    record {
-      within = omega (arith, low.left, c.within);
-      placed = λ i h.
-          let q = c.placed i (omega (arith, h, low.left)) in
-          let kept : q.0 < length (back_to level old) = kept_place level old q.0 q.1 (omega (arith, q.3, h, low.right)) in
-          (q.0, omega (arith, kept, length_push (back_to level old) step), ap (λ (s : Step). s.literal) (b.same q.0 kept) ∙ q.2, omega (arith, q.3, level_at-begins old new (length (back_to level old)) q.0 b kept));
-      decided = λ h.
-          ⊎_elim
-          (λ (e : lower ≡ cursor). ⊎_elim (λ (x : cursor < length assumed). absurd (omega (arith, c.decided x, above, e, low.right))) (λ (x : length assumed ≤ cursor). absurd (omega (arith, h, e, x))) (cases_lt cursor (length assumed)))
-          (λ (e : lower ≡ level). omega (arith, e, decisions-push_no (back_to level old) step implied, decisions-back_to old level))
-          low.one;
-    }
-
--- the cursor after steps that are implied
-pub IsCursor-implied : (assumed : List ℕ) (old added : List Step) (cursor : ℕ) → decisions (old ++ added) ≡ decisions old → IsCursor assumed old cursor → IsCursor assumed (old ++ added) cursor
-IsCursor-implied assumed old added cursor same c =
-    let b = Begins-append old added in
     record {
       within = c.within;
       placed = λ i h.
           let q = c.placed i h in
-          (q.0, omega (arith, q.1, length-append old added), ap (λ (s : Step). s.literal) (b.same q.0 q.1) ∙ q.2, omega (arith, q.3, level_at-begins old (old ++ added) (length old) q.0 b q.1));
+          IsHeld-begins assumed old new (length (back_to level old)) held i b q (kept_place level old q.place q.within (omega (arith, q.by_held, keeps)));
+      decided = λ h. omega (arith, c.decided h, above, decisions-push_no (back_to level old) step implied, decisions-back_to old level);
+    }
+
+-- and to one below
+pub IsCursor-back : (assumed : List ℕ) (old : List Step) (step : Step) (cursor held level : ℕ) → is_decision step ≡ false → level < decisions old → IsCursor assumed old cursor held → IsCursor assumed (back_to level old ++ step ∷ []) (min cursor level) level
+IsCursor-back assumed old step cursor held level implied above c =
+    let new = back_to level old ++ step ∷ [] in
+    let b = Begins-back level old step in
+    record {
+      within = omega (arith, c.within);
+      placed = λ i h.
+          let q = c.placed i (omega (arith, h)) in
+          let low : level_at old q.place ≤ level = omega (arith, q.level, h) in
+          IsHeld-begins assumed old new (length (back_to level old)) level i b
+          (record { place = q.place; within = q.within; is = q.is; level = q.level; by_held = low })
+          (kept_place level old q.place q.within low);
+      decided = λ h.
+          ⊎_elim
+          (λ (x : cursor < length assumed). omega (arith, c.decided x, above, decisions-push_no (back_to level old) step implied, decisions-back_to old level))
+          (λ (x : length assumed ≤ cursor). omega (arith, h, x, decisions-push_no (back_to level old) step implied, decisions-back_to old level))
+          (cases_lt cursor (length assumed));
+    }
+
+pub IsCursor-rewound : (assumed : List ℕ) (old : List Step) (step : Step) (cursor held level new_cursor new_held : ℕ) → is_decision step ≡ false → level < decisions old → IsRewound cursor held level new_cursor new_held
+    → IsCursor assumed old cursor held → IsCursor assumed (back_to level old ++ step ∷ []) new_cursor new_held
+IsCursor-rewound assumed old step cursor held level new_cursor new_held implied above how c =
+    ⊎_elim
+    (λ (k : (new_cursor ≡ cursor) × (new_held ≡ held) × (held ≤ level)). rw (k.0, k.1) (IsCursor-kept assumed old step cursor held level implied above k.2 c))
+    (λ (k : (new_cursor ≡ min cursor level) × (new_held ≡ level)). rw (k.0, k.1) (IsCursor-back assumed old step cursor held level implied above c))
+    how
+
+-- the cursor after steps that are implied
+pub IsCursor-implied : (assumed : List ℕ) (old added : List Step) (cursor held : ℕ) → decisions (old ++ added) ≡ decisions old → IsCursor assumed old cursor held → IsCursor assumed (old ++ added) cursor held
+IsCursor-implied assumed old added cursor held same c =
+    let b = Begins-append old added in
+    record {
+      within = c.within;
+      placed = λ i h. IsHeld-begins assumed old (old ++ added) (length old) held i b (c.placed i h) (c.placed i h).within;
       decided = λ h. omega (arith, same, c.decided h);
     }
 
@@ -183,25 +202,26 @@ refuted_at_zero atoms clauses steps lawful number level within fails top zero_le
     fixed_true atoms clauses steps lawful v sat (negated other) (record { place = p.0; within = p.1; is = p.2; low = omega (arith, zero_level, top.most other p.0 c p.1 p.2) }))
 
 -- a solver that differs in nothing that matters
-pub IsReady-kept : (old new : Solver) → IsReady old → new.book ≡ old.book → new.trail ≡ old.trail → new.assumed ≡ old.assumed → new.cursor ≡ old.cursor → new.marks.codes ≡ old.marks.codes → new.marks.marked ≡ [] → new.order.atoms ≡ old.order.atoms → IsReady new
-IsReady-kept old new ready book trail assumed cursor codes unmarked order = record {
+pub IsReady-kept : (old new : Solver) → IsReady old → new.book ≡ old.book → new.trail ≡ old.trail → new.assumed ≡ old.assumed → new.cursor ≡ old.cursor → new.held ≡ old.held → new.seen.codes ≡ old.seen.codes → new.seen.marked ≡ [] → new.heap.atoms ≡ old.heap.atoms → IsReady new
+IsReady-kept old new ready book trail assumed cursor held codes unmarked heap = record {
   fitted = record {
     goes = rw (book, trail) ready.fitted.goes;
     few = rw trail ready.fitted.few;
     codes = rw trail (codes ∙ ready.fitted.codes);
-    ordered = rw trail (order ∙ ready.fitted.ordered);
+    heap_atoms = rw trail (heap ∙ ready.fitted.heap_atoms);
   };
   ranges = rw (book, trail) ready.ranges;
+  learned = rw book ready.learned;
   unmarked = unmarked;
   assumptions = rw (trail, assumed) ready.assumptions;
   assumed = rw (trail, assumed) ready.assumed;
-  cursor = rw (trail, assumed, cursor) ready.cursor;
+  cursor = rw (trail, assumed, cursor, held) ready.cursor;
 }
 
 -- nothing that callers see has changed
-pub Stays-kept : (old new : Solver) → IsReady old → new.book ≡ old.book → new.trail ≡ old.trail → new.assumed ≡ old.assumed → new.cursor ≡ old.cursor → new.marks.codes ≡ old.marks.codes → new.marks.marked ≡ [] → new.order.atoms ≡ old.order.atoms → new.decided ≡ old.decided → Stays old new
-Stays-kept old new ready book trail assumed cursor codes unmarked order decided = record {
-  ready = IsReady-kept old new ready book trail assumed cursor codes unmarked order;
+pub Stays-kept : (old new : Solver) → IsReady old → new.book ≡ old.book → new.trail ≡ old.trail → new.assumed ≡ old.assumed → new.cursor ≡ old.cursor → new.held ≡ old.held → new.seen.codes ≡ old.seen.codes → new.seen.marked ≡ [] → new.heap.atoms ≡ old.heap.atoms → new.decided ≡ old.decided → Stays old new
+Stays-kept old new ready book trail assumed cursor held codes unmarked heap decided = record {
+  ready = IsReady-kept old new ready book trail assumed cursor held codes unmarked heap;
   meaning = rw book (SameMeaning-refl old.book.clauses);
   atoms = ap (λ (t : TrailState). t.atoms) trail;
   budget = ap (λ (t : TrailState). t.budget) trail;
@@ -211,17 +231,18 @@ Stays-kept old new ready book trail assumed cursor codes unmarked order decided 
 }
 
 -- one decision more
-pub Stays-decided : (old new : Solver) (step : Step) → IsReady old → Places old.trail new.trail old.trail.steps step → Goes old.book new.trail → new.book ≡ old.book → new.assumed ≡ old.assumed → new.marks ≡ old.marks → new.order.atoms ≡ old.order.atoms → DecidesAssumed old.assumed.items (old.trail.steps ++ step ∷ []) → IsCursor old.assumed.items (old.trail.steps ++ step ∷ []) new.cursor → old.decided ≤ new.decided → Stays old new
-Stays-decided old new step ready placed goes book assumed marks order decides cursor decided = record {
+pub Stays-decided : (old new : Solver) (step : Step) → IsReady old → Places old.trail new.trail old.trail.steps step → Goes old.book new.trail → new.book ≡ old.book → new.assumed ≡ old.assumed → new.seen ≡ old.seen → new.heap.atoms ≡ old.heap.atoms → DecidesAssumed old.assumed.items (old.trail.steps ++ step ∷ []) → IsCursor old.assumed.items (old.trail.steps ++ step ∷ []) new.cursor new.held → old.decided ≤ new.decided → Stays old new
+Stays-decided old new step ready placed goes book assumed seen heap decides cursor decided = record {
   ready = record {
     fitted = record {
       goes = rw book goes;
       few = rw placed.atoms ready.fitted.few;
-      codes = rw (marks, placed.atoms) ready.fitted.codes;
-      ordered = rw placed.atoms (order ∙ ready.fitted.ordered);
+      codes = rw (seen, placed.atoms) ready.fitted.codes;
+      heap_atoms = rw placed.atoms (heap ∙ ready.fitted.heap_atoms);
     };
     ranges = rw (placed.atoms, book) ready.ranges;
-    unmarked = rw marks ready.unmarked;
+    learned = rw book ready.learned;
+    unmarked = rw seen ready.unmarked;
     assumptions = rw (placed.atoms, assumed) ready.assumptions;
     assumed = rw (assumed, placed.steps) decides;
     cursor = rw (assumed, placed.steps) cursor;
@@ -235,22 +256,23 @@ Stays-decided old new step ready placed goes book assumed marks order decides cu
 }
 
 -- implied literals more
-pub Stays-propagated : (old new : Solver) → IsReady old → Goes new.book new.trail → SameClauses old.book.clauses new.book.clauses → Extends old.trail new.trail → new.assumed ≡ old.assumed → new.cursor ≡ old.cursor → new.marks ≡ old.marks → new.order ≡ old.order → new.decided ≡ old.decided → Stays old new
-Stays-propagated old new ready goes clauses extended assumed cursor marks order decided =
+pub Stays-propagated : (old new : Solver) → IsReady old → Goes new.book new.trail → SameClauses old.book.clauses new.book.clauses → new.book.kinds ≡ old.book.kinds → Extends old.trail new.trail → new.assumed ≡ old.assumed → new.cursor ≡ old.cursor → new.held ≡ old.held → new.seen ≡ old.seen → new.heap ≡ old.heap → new.decided ≡ old.decided → Stays old new
+Stays-propagated old new ready goes clauses kinds extended assumed cursor held seen heap decided =
     let e = extended.1 in
     record {
       ready = record {
         fitted = record {
           goes = goes;
           few = rw e.atoms ready.fitted.few;
-          codes = rw (marks, e.atoms) ready.fitted.codes;
-          ordered = rw (order, e.atoms) ready.fitted.ordered;
+          codes = rw (seen, e.atoms) ready.fitted.codes;
+          heap_atoms = rw (heap, e.atoms) ready.fitted.heap_atoms;
         };
         ranges = rw e.atoms (AreInRange-reordered old.trail.atoms old.book.clauses new.book.clauses clauses ready.ranges);
-        unmarked = rw marks ready.unmarked;
+        learned = rw kinds (AreLearned-reordered old.book.kinds old.book.clauses new.book.clauses clauses ready.learned);
+        unmarked = rw seen ready.unmarked;
         assumptions = rw (e.atoms, assumed) ready.assumptions;
         assumed = rw (assumed, e.steps) (DecidesAssumed-append old.assumed.items old.trail.steps extended.0 e.implied ready.assumed);
-        cursor = rw (assumed, e.steps, cursor) (IsCursor-implied old.assumed.items old.trail.steps extended.0 old.cursor (decisions-append-implied old.trail.steps extended.0 e.implied) ready.cursor);
+        cursor = rw (assumed, e.steps, cursor, held) (IsCursor-implied old.assumed.items old.trail.steps extended.0 old.cursor old.held (decisions-append-implied old.trail.steps extended.0 e.implied) ready.cursor);
       };
       meaning = SameMeaning-reordered old.book.clauses new.book.clauses clauses;
       atoms = e.atoms;

@@ -8,30 +8,30 @@ use Rattle.asp_clauses.specs.declared.trail.Step.{Step}
 use Rattle.asp_clauses.specs.Literal.{negated}
 use Rattle.asp_clauses.specs.Trail.{step_at, literal_at, is_decision, decisions, IsPlaced, IsLawful, clause_at}
 use Rattle.asp_search.specs.Meaning.{truth, MentionedIn, Mentions}
-use Rattle.asp_search.specs.Analysis.{IsFixed, Blames}
-use Rattle.asp_search.specs.Cores.{IsBlamed, IsTrace, IsCore}
+use Rattle.asp_search.specs.Analysis.{IsFixed, MarksReason}
+use Rattle.asp_search.specs.Cores.{IsMarkedDecision, IsTrace, IsCore}
 use Rattle.asp_search.specs.Solver.{AreAssumptions, DecidesAssumed}
 use Rattle.asp_clauses.proofs.LiteralLemmas.{negated-half, negated-≢}
 use Rattle.asp_search.proofs.Truth.{Contains-cases, true-negated}
 use Rattle.asp_search.proofs.Trails.{has_reason, placed_before}
-use Rattle.asp_search.proofs.Resolution.{fixed_true, Refutes-resolved, Refutes-passed, Refutes-kept}
+use Rattle.asp_search.proofs.Resolution.{fixed_true, Refutes-resolved, Refutes-kept}
 use Rattle.asp_clauses.proofs.ReorderLemmas.{Contains-place}
 use Rattle.asp_clauses.proofs.FewLemmas.{not_both}
-use Rattle.asp_search.proofs.Blaming.{same_place}
+use Rattle.asp_search.proofs.Marking.{same_place}
 
 only : (x y : ℕ) → Contains (x ∷ []) y → x ≡ y
 only x y c = ⊎_elim (λ (e : x ≡ y). e) (λ (t : Contains [] y). absurd (omega (arith, t.1))) (Contains-cases x [] y c)
 
 module _ (atoms : ℕ) (clauses : List (List ℕ)) (steps : List Step) (lawful : IsLawful atoms clauses steps) where
   -- the false assumption alone
-  pub IsTrace-start : (failed blamed : ℕ) (marked : List ℕ) → IsPlaced steps (negated failed) → Blames steps (failed ∷ []) (decisions steps) [] marked blamed → IsTrace clauses steps marked (length steps) (failed ∷ [])
-  IsTrace-start failed blamed marked placed b = record {
+  pub IsTrace-start : (failed newly : ℕ) (marked : List ℕ) → IsPlaced steps (negated failed) → MarksReason steps (failed ∷ []) (decisions steps) [] marked newly → IsTrace clauses steps marked (length steps) (failed ∷ [])
+  IsTrace-start failed newly marked placed b = record {
     refutes = record {
-      none = λ v sat marks kept.
+      none = λ v sat seen kept.
           let holds : truth v failed ≡ true = kept failed (0, omega arith, refl) in
           let fails : truth v (negated failed) ≡ true = ⊎_elim
           (λ (f : IsFixed steps (negated failed)). fixed_true atoms clauses steps lawful v sat (negated failed) f)
-          (λ (m : Contains marked (negated failed)). subst (λ (l : ℕ). truth v l ≡ true) placed.2 (marks placed.0 placed.1 placed.1 (subst (λ (l : ℕ). Contains marked l) (sym placed.2) m)))
+          (λ (m : Contains marked (negated failed)). subst (λ (l : ℕ). truth v l ≡ true) placed.2 (seen placed.0 placed.1 placed.1 (subst (λ (l : ℕ). Contains marked l) (sym placed.2) m)))
           (b.covers failed (0, omega arith, refl) placed) in
           true-negated v failed fails holds;
     };
@@ -50,8 +50,8 @@ module _ (atoms : ℕ) (clauses : List (List ℕ)) (steps : List Step) (lawful :
   }
 
   module _ (marked core : List ℕ) (place : ℕ) (within : place < length steps) (trace : IsTrace clauses steps marked (suc place) core) where
-    pub IsTrace-resolved : (number blamed : ℕ) (more : List ℕ) → (step_at steps place).reason ≡ Some number → Blames steps (clause_at clauses number) (decisions steps) marked more blamed → IsTrace clauses steps more place core
-    IsTrace-resolved number blamed more reason b =
+    pub IsTrace-resolved : (number newly : ℕ) (more : List ℕ) → (step_at steps place).reason ≡ Some number → MarksReason steps (clause_at clauses number) (decisions steps) marked more newly → IsTrace clauses steps more place core
+    IsTrace-resolved number newly more reason b =
         let r = lawful.reasoned place within number reason in
         record {
           refutes = Refutes-resolved atoms clauses steps lawful marked more core place number within reason b.grows b.covers trace.refutes;
@@ -65,7 +65,7 @@ module _ (atoms : ℕ) (clauses : List (List ℕ)) (steps : List Step) (lawful :
           members = λ literal c.
               ⊎_elim
               (λ (e : literal ≡ get_or core 0 0). inl e)
-              (λ (d : IsBlamed steps marked literal). inr (record { place = d.place; within = d.within; is = d.is; decided = d.decided; has = b.grows literal d.has }))
+              (λ (d : IsMarkedDecision steps marked literal). inr (record { place = d.place; within = d.within; is = d.is; decided = d.decided; has = b.grows literal d.has }))
               (trace.members literal c);
         }
 
@@ -93,7 +93,7 @@ module _ (atoms : ℕ) (clauses : List (List ℕ)) (steps : List Step) (lawful :
     mentioned = λ literal c.
         ⊎_elim
         (λ (e : literal ≡ get_or core 0 0). subst (λ (l : ℕ). Mentions clauses (l / 2)) (sym (e ∙ first)) failed_mentioned)
-        (λ (d : IsBlamed steps marked literal).
+        (λ (d : IsMarkedDecision steps marked literal).
         ⊎_elim
         (λ (e : literal ≡ negated (get_or core 0 0)). absurd (opposite_not_assumed (subst (λ (l : ℕ). Contains assumed l) (e ∙ ap (λ (l : ℕ). negated l) first) (decided_assumed literal d))))
         (λ (m : Mentions clauses (literal / 2)). m)
@@ -110,14 +110,14 @@ module _ (atoms : ℕ) (clauses : List (List ℕ)) (steps : List Step) (lawful :
         absurd (not_both steps failed lawful.distinct (b.0, b.2, b.3) fails))
         (decides p within is)
 
-    decided_assumed : (literal : ℕ) → IsBlamed steps marked literal → Contains assumed literal
+    decided_assumed : (literal : ℕ) → IsMarkedDecision steps marked literal → Contains assumed literal
     decided_assumed literal d = subst (λ (l : ℕ). Contains assumed l) d.is (decided_at d.place d.within d.decided)
 
     part : (literal : ℕ) → Contains core literal → Contains assumed literal
     part literal c =
         ⊎_elim
         (λ (e : literal ≡ get_or core 0 0). subst (λ (l : ℕ). Contains assumed l) (sym (e ∙ first)) has)
-        (λ (d : IsBlamed steps marked literal). decided_assumed literal d)
+        (λ (d : IsMarkedDecision steps marked literal). decided_assumed literal d)
         (trace.members literal c)
 
     -- no two assumptions are on one atom

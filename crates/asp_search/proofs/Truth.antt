@@ -1,7 +1,7 @@
 -- lemmas on the truth of literals
-use Rattle.std.proofs.Common.{◌≡◌, ◌≢◌, ℕ, suc, zero, ◌+◌, ◌*◌, ◌/◌, ◌%◌, ◌-◌, ◌<◌, ◌⊎◌, Bool, true, false, not, eqb, List, [], ◌∷◌, length, get_or, refl, sym, ◌∙◌, subst, ⊎_elim, inl, inr, arith}
+use Rattle.std.proofs.Common.{◌≡◌, ℕ, suc, zero, ◌+◌, ◌/◌, ◌%◌, ◌-◌, ◌<◌, ◌⊎◌, Bool, true, false, not, eqb, List, [], ◌∷◌, length, get_or, refl, sym, ◌∙◌, subst, ⊎_elim, inl, inr, arith}
 use Rattle.std.specs.List.{Contains}
-use Rattle.std.proofs.lemmas.Bool.{cases_Bool, cases_eq, cond-true, cond-false, eq-eqb, ne_eqb, both_ways, not_from_false, not-true}
+use Rattle.std.proofs.lemmas.Bool.{cases_Bool, cond-true, cond-false, eq-eqb, ne_eqb, both_ways, not_from_false, not-true}
 use Rattle.asp_clauses.specs.Literal.{negated}
 use Rattle.asp_clauses.proofs.LiteralLemmas.{negated_even, negated_odd, is_even, negated-half, negated-lt}
 use Rattle.asp_search.specs.Meaning.{truth, Satisfies}

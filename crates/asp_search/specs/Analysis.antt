@@ -3,7 +3,7 @@ use Rattle.std.specs.Prelude.{◌≡◌, ◌≢◌, ℕ, zero, suc, ◌+◌, ◌
 use Rattle.std.specs.List.{Contains}
 use Rattle.asp_clauses.specs.declared.trail.Step.{Step}
 use Rattle.asp_clauses.specs.Literal.{negated}
-use Rattle.asp_clauses.specs.Trail.{IsPlaced, IsUnassigned, Implies, clause_at, step_at, literal_at, level_at, decisions, back_to}
+use Rattle.asp_clauses.specs.Trail.{IsPlaced, IsUnassigned, Implies, clause_at, step_at, literal_at, level_at, back_to}
 use Rattle.asp_clauses.specs.Book.{IsClause}
 use Rattle.asp_search.specs.Meaning.{truth, Satisfies, SatisfiesAll, AllTrue, MentionedIn, Mentions}
 
@@ -70,7 +70,7 @@ Before steps clause end =
     (literal place : ℕ) → Contains clause literal → place < length steps → literal_at steps place ≡ negated literal → place < end
 
 -- the marks grow by what makes the clause false; `pending` of the new ones are of the level
-pub record Blames (steps : List Step) (clause : List ℕ) (level : ℕ) (old new : List ℕ) (pending : ℕ) : Type 0 where
+pub record MarksReason (steps : List Step) (clause : List ℕ) (level : ℕ) (old new : List ℕ) (pending : ℕ) : Type 0 where
   pub grows : (literal : ℕ) → Contains old literal → Contains new literal
   pub covers : Covers steps new clause
   pub marked : AreMarked steps level new
@@ -105,7 +105,7 @@ pub record IsCut (clauses : List (List ℕ)) (steps : List Step) (marked : List 
 pub record IsLearned (atoms : ℕ) (clauses : List (List ℕ)) (steps : List Step) (learned : List ℕ) (place target : ℕ) : Type 0 where
   pub clause : IsClause atoms learned
   pub follows : (v : ℕ → Bool) → SatisfiesAll v clauses → Satisfies v learned
-  pub lower : target < decisions steps
+  pub lower : target < level_at steps place
   pub code : negated (literal_at steps place) < 2 * atoms
   pub implies : Implies (back_to target steps) learned (negated (literal_at steps place))
   pub unassigned : IsUnassigned (back_to target steps) (negated (literal_at steps place))

@@ -4,6 +4,7 @@ use Rattle.std.specs.List.{Contains}
 use Rattle.asp_clauses.specs.Literal.{negated}
 use Rattle.asp_search.specs.declared.solver.Solver.{Solver}
 use Rattle.asp_clauses.specs.Book.{Goes}
+use Rattle.asp_search.specs.Learned.{AreLearned}
 use Rattle.asp_search.specs.Solver.{IsReady, AreInRange}
 
 -- both literals of an atom stand in the clause
@@ -22,11 +23,13 @@ pub record Collects (clause collected : List ℕ) : Type 0 where
 pub record KeepsBook (old new : Solver) : Type 0 where
   pub goes : Goes new.book new.trail
   pub ranges : AreInRange new.trail.atoms new.book.clauses
+  pub learned : AreLearned new.book.kinds new.book.clauses
   pub trail : new.trail ≡ old.trail
   pub assumed : new.assumed ≡ old.assumed
   pub cursor : new.cursor ≡ old.cursor
-  pub codes : new.marks.codes ≡ old.marks.codes
-  pub order : new.order ≡ old.order
+  pub held : new.held ≡ old.held
+  pub codes : new.seen.codes ≡ old.seen.codes
+  pub heap : new.heap ≡ old.heap
   pub decided : new.decided ≡ old.decided
 
 -- only the clauses have changed

@@ -8,7 +8,7 @@ use Rattle.asp_search.specs.Meaning.{SatisfiesAll, AllTrue, Mentions}
 use Rattle.asp_search.specs.Analysis.{Refutes, AreMarked}
 
 -- a marked decision
-pub record IsBlamed (steps : List Step) (marked : List ℕ) (literal : ℕ) : Type 0 where
+pub record IsMarkedDecision (steps : List Step) (marked : List ℕ) (literal : ℕ) : Type 0 where
   pub place : ℕ
   pub within : place < length steps
   pub is : literal_at steps place ≡ literal
@@ -21,7 +21,7 @@ pub record IsTrace (clauses : List (List ℕ)) (steps : List Step) (marked : Lis
   pub levels : AreMarked steps (decisions steps) marked
   pub some : 0 < length core
   pub mentions : (literal : ℕ) → Contains marked literal → (literal ≡ negated (slice_index core 0)) ⊎ Mentions clauses (literal / 2)
-  pub members : (literal : ℕ) → Contains core literal → (literal ≡ slice_index core 0) ⊎ IsBlamed steps marked literal
+  pub members : (literal : ℕ) → Contains core literal → (literal ≡ slice_index core 0) ⊎ IsMarkedDecision steps marked literal
 
 -- a part of the assumptions with which no assignment satisfies the clauses, and whose atoms the clauses mention
 pub record IsCore (clauses : List (List ℕ)) (assumed core : List ℕ) : Type 0 where

@@ -8,12 +8,13 @@ pub record Derives (solver : Solver) (place target : ℕ) : Type 0 where
   pub within : place < length solver.trail.steps
   pub learned : IsLearned solver.trail.atoms solver.book.clauses solver.trail.steps solver.learned.items place target
 
--- only marks, order and the learned clause have changed
+-- only seen literals, the decision heap and the learned clause have changed
 pub record Keeps (old new : Solver) : Type 0 where
   pub book : new.book ≡ old.book
   pub trail : new.trail ≡ old.trail
   pub assumed : new.assumed ≡ old.assumed
   pub cursor : new.cursor ≡ old.cursor
-  pub codes : new.marks.codes ≡ old.marks.codes
-  pub order : new.order.atoms ≡ old.order.atoms
+  pub held : new.held ≡ old.held
+  pub codes : new.seen.codes ≡ old.seen.codes
+  pub heap : new.heap.atoms ≡ old.heap.atoms
   pub decided : new.decided ≡ old.decided

@@ -1,7 +1,9 @@
 pub mod Meaning
 pub mod Analysis
-pub mod Marks
-pub mod Order
+pub mod Seen
+pub mod DecisionHeap
+pub mod Minimize
+pub mod Learned
 pub mod Fit
 pub mod Solver
 pub mod Deriving

@@ -1,6 +1,6 @@
 -- What the fields of a search say.
-use Rattle.std.specs.Prelude.{◌≡◌}
-use Rattle.asp_search.specs.declared.stage.Stage.TheVariants.{Found, Spent}
+use Rattle.std.specs.Prelude.{◌≡◌, ◌≢◌, None}
+use Rattle.asp_search.specs.declared.stage.Stage.TheVariants.{New, Begun, Found, Spent}
 use Rattle.asp_search.specs.declared.search.Search.TheInside.{Inside}
 use Rattle.asp_search.specs.Solver.{IsReady}
 use Rattle.asp_search.specs.Found.{literals_of, IsSatisfied}
@@ -14,6 +14,7 @@ state_of s = record {
   clauses = s.solver.book.clauses;
   assumed = s.solver.assumed.items;
   trail = literals_of s.solver.trail.steps;
+  ordered = s.ordered;
   stage = s.stage;
   decisions = s.solver.decided;
 }
@@ -23,3 +24,4 @@ pub record IsSound (s : Inside) : Type 0 where
   pub budget : s.budget ≡ s.solver.trail.budget
   pub found : s.stage ≡ Found → IsSatisfied s.solver
   pub spent : s.stage ≡ Spent → s.solver.trail.count ≡ s.solver.trail.budget
+  pub asked : s.stage ≢ New → s.stage ≢ Begun → s.ordered ≢ None

@@ -1,11 +1,12 @@
 -- The state of a search between two steps.
-use Rattle.std.specs.Prelude.{◌≡◌, ◌≢◌, ℕ, ◌+◌, ◌*◌, ◌/◌, ◌<◌, ◌≤◌, ◌⊎◌, Bool, true, List, [], length, take, slice_index}
+use Rattle.std.specs.Prelude.{◌≡◌, ◌≢◌, ℕ, ◌+◌, ◌*◌, ◌/◌, ◌<◌, ◌≤◌, ◌⊎◌, Bool, true, List, [], length, take, slice_index, min}
 use Rattle.std.specs.List.{Contains}
 use Rattle.asp_clauses.specs.declared.trail.Step.{Step}
 use Rattle.asp_clauses.specs.Trail.{IsPlaced, step_at, literal_at, level_at, is_decision, decisions, clause_at}
 use Rattle.asp_search.specs.declared.solver.Solver.{Solver}
 use Rattle.asp_search.specs.Meaning.{SatisfiesAll, SameMeaning}
-use Rattle.asp_search.specs.Marks.{AreCodes}
+use Rattle.asp_search.specs.Seen.{AreCodes}
+use Rattle.asp_search.specs.Learned.{AreLearned}
 use Rattle.asp_search.specs.Fit.{AreFitted}
 
 -- codes in range, and no atom twice
@@ -19,11 +20,24 @@ DecidesAssumed assumed steps =
     (place : ℕ) → place < length steps → is_decision (step_at steps place) ≡ true
     → Contains assumed (literal_at steps place) ⊎ ((literal : ℕ) → Contains assumed literal → IsPlaced (take place steps) literal)
 
--- the assumptions before the cursor are true, each at most at the level that it would be decided at
-pub record IsCursor (assumed : List ℕ) (steps : List Step) (cursor : ℕ) : Type 0 where
+-- the assumption is true, at most at the level that it would be decided at, and by the first `held` decisions
+pub record IsHeld (assumed : List ℕ) (steps : List Step) (held i : ℕ) : Type 0 where
+  pub place : ℕ
+  pub within : place < length steps
+  pub is : literal_at steps place ≡ slice_index assumed i
+  pub level : level_at steps place ≤ i + 1
+  pub by_held : level_at steps place ≤ held
+
+-- the assumptions before the cursor are true
+pub record IsCursor (assumed : List ℕ) (steps : List Step) (cursor held : ℕ) : Type 0 where
   pub within : cursor ≤ length assumed
-  pub placed : (i : ℕ) → i < cursor → (p : ℕ) × (p < length steps) × (literal_at steps p ≡ slice_index assumed i) × (level_at steps p ≤ i + 1)
+  pub placed : (i : ℕ) → i < cursor → IsHeld assumed steps held i
   pub decided : cursor < length assumed → decisions steps ≤ cursor
+
+-- the cursor after a jump to a level: where it was, if the level keeps the assumptions before it, or else at the level
+abbrev pub IsRewound : ℕ → ℕ → ℕ → ℕ → ℕ → Type 0
+IsRewound cursor held level new_cursor new_held =
+    ((new_cursor ≡ cursor) × (new_held ≡ held) × (held ≤ level)) ⊎ ((new_cursor ≡ min cursor level) × (new_held ≡ level))
 
 -- each literal of the clauses is on one of the atoms
 abbrev pub AreInRange : ℕ → List (List ℕ) → Type 0
@@ -31,12 +45,13 @@ AreInRange atoms clauses =
     (number literal : ℕ) → number < length clauses → Contains (clause_at clauses number) literal → literal < 2 * atoms
 
 pub record IsReady (solver : Solver) : Type 0 where
-  pub fitted : AreFitted solver.book solver.trail solver.marks solver.order
+  pub fitted : AreFitted solver.book solver.trail solver.seen solver.heap
   pub ranges : AreInRange solver.trail.atoms solver.book.clauses
-  pub unmarked : solver.marks.marked ≡ []
+  pub learned : AreLearned solver.book.kinds solver.book.clauses
+  pub unmarked : solver.seen.marked ≡ []
   pub assumptions : AreAssumptions solver.trail.atoms solver.assumed.items
   pub assumed : DecidesAssumed solver.assumed.items solver.trail.steps
-  pub cursor : IsCursor solver.assumed.items solver.trail.steps solver.cursor
+  pub cursor : IsCursor solver.assumed.items solver.trail.steps solver.cursor solver.held
 
 -- nothing that callers see has changed but the trail
 pub record Stays (old new : Solver) : Type 0 where

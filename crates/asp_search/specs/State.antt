@@ -1,5 +1,6 @@
 -- What contracts see of a search.
-use Rattle.std.specs.Prelude.{◌≡◌, ℕ, ◌+◌, ◌*◌, ◌/◌, ◌<◌, ◌≤◌, ◌≢◌, ◌⊎◌, List, [], length, slice_index}
+use Rattle.std.specs.Prelude.{◌≡◌, ℕ, ◌+◌, ◌*◌, ◌/◌, ◌<◌, ◌≤◌, ◌≢◌, ◌⊎◌, Bool, List, [], length, slice_index, Option, None}
+use Rattle.asp_clauses.specs.Literal.{most_atoms}
 use Rattle.std.specs.List.{Contains}
 use Rattle.asp_search.specs.declared.stage.Stage.{Stage}
 use Rattle.asp_search.specs.declared.stage.Stage.TheVariants.{New, Begun, Found, Extended, Spent, NoMemory}
@@ -7,7 +8,8 @@ use Rattle.asp_search.specs.Meaning.{SatisfiesAll, AllTrue, AddsClause, SameMean
 use Rattle.asp_search.specs.Found.{assignment_of}
 
 -- `clauses` has the meaning of the added ones; `trail` has the literals that are true, in the order in which they were
--- placed; `count` is how many were placed since the search began, `decisions` how many were decided since it was made
+-- placed; `count` is how many were placed since the search began, `decisions` how many were decided since it was made;
+-- `ordered` is how `next` was asked since the search began, none before its first call
 pub record SearchState : Type 0 where
   pub atoms : ℕ
   pub budget : ℕ
@@ -15,18 +17,20 @@ pub record SearchState : Type 0 where
   pub clauses : List (List ℕ)
   pub assumed : List ℕ
   pub trail : List ℕ
+  pub ordered : Option Bool
   pub stage : Stage
   pub decisions : ℕ
 
 -- no clause, no assumption, no search; there are few enough atoms for their literals to have codes
 pub record IsFresh (search : SearchState) (atoms budget : ℕ) : Type 0 where
   pub atoms_are : search.atoms ≡ atoms
-  pub few : search.atoms ≤ 262144
+  pub few : search.atoms ≤ most_atoms
   pub budget_is : search.budget ≡ budget
   pub count : search.count ≡ 0
   pub clauses : search.clauses ≡ []
   pub assumed : search.assumed ≡ []
   pub trail : search.trail ≡ []
+  pub ordered : search.ordered ≡ None
   pub stage : search.stage ≡ New
   pub decisions : search.decisions ≡ 0
 

@@ -1,17 +1,18 @@
 //! Why a clause is false: the conflict is resolved with the reasons of its literals, from the last one back, until
-//! one literal of its level is left. Marks say which literals stand in the resolvent.
+//! one literal of its level is left, the first unique implication point. Marks say which literals stand in the resolvent.
 
 ghost use Rattle.std.specs.Prelude.{◌≡◌, ◌≢◌, ℕ, suc, ◌+◌, ◌*◌, ◌/◌, ◌<◌, ◌≤◌, ◌^◌, ◌↔◌, ◌⊎◌, [], ◌∷◌, length, IsTrue, IfOk, OnOk, MatchOption, slice_index};
 ghost use Rattle.std.specs.List.{Contains};
 ghost use Rattle.asp_clauses.specs.Literal.{negated};
 ghost use Rattle.asp_clauses.specs.Trail.{IsFalse, IsPlaced, StandsAt, clause_at, literal_at, level_at, step_at};
 ghost use Rattle.asp_clauses.specs.Book.{Goes};
-ghost use Rattle.asp_search.specs.Analysis.{AreApart, AreMarked, AtMost, Blames, IsTopLevel, IsWalk, IsCut, IsLearned, IsRedundant, IsFixed, Takes};
+ghost use Rattle.asp_search.specs.Analysis.{AreApart, AreMarked, AtMost, MarksReason, IsTopLevel, IsWalk, IsCut, IsLearned, IsRedundant, IsFixed, Takes};
 ghost use Rattle.asp_search.specs.Fit.{AreFitted, AreKept};
 
 use crate::NoMemory;
-use crate::decide::Order;
-use crate::marks::Marks;
+use crate::activity::{ClauseActivity, LevelCount};
+use crate::decide::DecisionHeap;
+use crate::seen::Seen;
 use crate::solver::{is_true, opposite};
 use asp_clauses::{Book, Trail};
 
@@ -31,22 +32,22 @@ pub fn conflict_level(book: &Book, trail: &Trail, conflict: u32) -> u32
 
 /// Marks what makes the literal false, and answers 1 where that is of the level.
 #[tactic(auto, using(crate::proofs::Truth::codes))]
-pub fn blame_literal(
-    marks: &mut Marks,
-    order: &mut Order,
+pub fn mark_cause(
+    seen: &mut Seen,
+    heap: &mut DecisionHeap,
     trail: &Trail,
     literal: u32,
     level: u32,
 ) -> Result<u32, NoMemory>
     requires code { literal < 2 * trail.now.atoms }
-    requires codes { marks.old.codes ≡ 2 * trail.now.atoms }
-    requires order { order.old.atoms ≡ trail.now.atoms }
+    requires codes { seen.old.codes ≡ 2 * trail.now.atoms }
+    requires heap { heap.old.atoms ≡ trail.now.atoms }
     requires apart { AreApart trail.now.steps }
     requires most { AtMost trail.now.steps (literal ∷ []) level }
-    requires marked { AreMarked trail.now.steps level marks.old.marked }
-    ensures codes { marks.new.codes ≡ marks.old.codes }
-    ensures order { order.new.atoms ≡ order.old.atoms }
-    ensures blamed { IfOk result (λ pending. Blames trail.now.steps (literal ∷ []) level marks.old.marked marks.new.marked pending) }
+    requires marked { AreMarked trail.now.steps level seen.old.marked }
+    ensures codes { seen.new.codes ≡ seen.old.codes }
+    ensures heap { heap.new.atoms ≡ heap.old.atoms }
+    ensures marks { IfOk result (λ pending. MarksReason trail.now.steps (literal ∷ []) level seen.old.marked seen.new.marked pending) }
     ensures one { IfOk result (λ pending. pending ≤ 1) }
 {
     let cause = opposite(literal);
@@ -57,34 +58,34 @@ pub fn blame_literal(
     if at == 0 {
         return Ok(0);
     }
-    if marks.contains(cause) {
+    if seen.contains(cause) {
         return Ok(0);
     }
-    marks.insert(cause)?;
-    order.bump(cause / 2);
+    seen.insert(cause)?;
+    heap.bump(cause / 2);
     Ok(if at == level { 1 } else { 0 })
 }
 
 /// Marks what makes literals of the clause false, and answers how many of the new marks are of the level.
-pub fn blame(
-    marks: &mut Marks,
-    order: &mut Order,
+pub fn mark_reason(
+    seen: &mut Seen,
+    heap: &mut DecisionHeap,
     book: &Book,
     trail: &Trail,
     clause: u32,
     level: u32,
 ) -> Result<usize, NoMemory>
-    requires fitted { AreFitted book.now trail.now marks.old order.old }
+    requires fitted { AreFitted book.now trail.now seen.old heap.old }
     requires clause { clause < length book.now.clauses }
     requires most { AtMost trail.now.steps (clause_at book.now.clauses clause) level }
-    requires marked { AreMarked trail.now.steps level marks.old.marked }
-    ensures kept { AreKept marks.old order.old marks.new order.new }
-    ensures blamed { IfOk result
-        (λ pending. Blames trail.now.steps (clause_at book.now.clauses clause) level marks.old.marked marks.new.marked pending) }
+    requires marked { AreMarked trail.now.steps level seen.old.marked }
+    ensures kept { AreKept seen.old heap.old seen.new heap.new }
+    ensures marks { IfOk result
+        (λ pending. MarksReason trail.now.steps (clause_at book.now.clauses clause) level seen.old.marked seen.new.marked pending) }
 {
     let mut pending = 0usize;
     for literal in book.lits(clause) {
-        pending += blame_literal(marks, order, trail, *literal, level)? as usize;
+        pending += mark_cause(seen, heap, trail, *literal, level)? as usize;
     }
     Ok(pending)
 }
@@ -92,23 +93,24 @@ pub fn blame(
 /// Resolves the literal at a place, of which all later ones are resolved: answers how many of its level are left, or
 /// none where it is the only one.
 fn resolve(
-    marks: &mut Marks,
-    order: &mut Order,
+    seen: &mut Seen,
+    heap: &mut DecisionHeap,
+    activity: &mut ClauseActivity,
     book: &Book,
     trail: &Trail,
     place: u32,
     pending: usize,
     level: u32,
 ) -> Result<Option<usize>, NoMemory>
-    requires fitted { AreFitted book.now trail.now marks.old order.old }
-    requires walk { IsWalk book.now.clauses trail.now.steps marks.old.marked level (suc place) pending }
-    ensures kept { AreKept marks.old order.old marks.new order.new }
+    requires fitted { AreFitted book.now trail.now seen.old heap.old }
+    requires walk { IsWalk book.now.clauses trail.now.steps seen.old.marked level (suc place) pending }
+    ensures kept { AreKept seen.old heap.old seen.new heap.new }
     ensures walk { IfOk result (λ rest. MatchOption rest
-        (IsCut book.now.clauses trail.now.steps marks.new.marked level place)
-        (λ left. IsWalk book.now.clauses trail.now.steps marks.new.marked level place left)) }
+        (IsCut book.now.clauses trail.now.steps seen.new.marked level place)
+        (λ left. IsWalk book.now.clauses trail.now.steps seen.new.marked level place left)) }
 {
     let literal = trail.at(place);
-    if !marks.contains(literal) {
+    if !seen.contains(literal) {
         return Ok(Some(pending));
     }
     let reason = match trail.reason(literal / 2) {
@@ -118,33 +120,36 @@ fn resolve(
     if pending == 1 {
         return Ok(None);
     }
-    let blamed = blame(marks, order, book, trail, reason, level)?;
-    Ok(Some(pending - 1 + blamed))
+    activity.bump(reason);
+    let newly = mark_reason(seen, heap, book, trail, reason, level)?;
+    Ok(Some(pending - 1 + newly))
 }
 
 /// Resolves a conflict down to one literal of its level, and answers the place of that one.
 pub fn resolve_conflict(
-    marks: &mut Marks,
-    order: &mut Order,
+    seen: &mut Seen,
+    heap: &mut DecisionHeap,
+    activity: &mut ClauseActivity,
     book: &Book,
     trail: &Trail,
     conflict: u32,
     level: u32,
 ) -> Result<u32, NoMemory>
-    requires fitted { AreFitted book.now trail.now marks.old order.old }
-    requires unmarked { marks.old.marked ≡ [] }
+    requires fitted { AreFitted book.now trail.now seen.old heap.old }
+    requires unmarked { seen.old.marked ≡ [] }
     requires clause { conflict < length book.now.clauses }
     requires fails { IsFalse trail.now.steps (clause_at book.now.clauses conflict) }
     requires top { IsTopLevel trail.now.steps (clause_at book.now.clauses conflict) level }
     requires decided { 0 < level }
-    ensures kept { AreKept marks.old order.old marks.new order.new }
-    ensures cut { IfOk result (λ place. IsCut book.now.clauses trail.now.steps marks.new.marked level place) }
+    ensures kept { AreKept seen.old heap.old seen.new heap.new }
+    ensures cut { IfOk result (λ place. IsCut book.now.clauses trail.now.steps seen.new.marked level place) }
 {
-    let mut pending = blame(marks, order, book, trail, conflict, level)?;
+    activity.bump(conflict);
+    let mut pending = mark_reason(seen, heap, book, trail, conflict, level)?;
     let mut end = trail.len();
     loop {
         end -= 1;
-        match resolve(marks, order, book, trail, end, pending, level)? {
+        match resolve(seen, heap, activity, book, trail, end, pending, level)? {
             Some(left) => pending = left,
             None => return Ok(end),
         }
@@ -153,38 +158,38 @@ pub fn resolve_conflict(
 
 /// Whether another literal of a reason is false by what is marked, or placed before the first decision.
 #[tactic(auto, using(crate::proofs::Truth::codes))]
-fn is_excused(marks: &Marks, trail: &Trail, literal: u32, other: u32) -> bool
+fn is_excused(seen: &Seen, trail: &Trail, literal: u32, other: u32) -> bool
     requires code { other < 2 * trail.now.atoms }
-    requires codes { marks.now.codes ≡ 2 * trail.now.atoms }
+    requires codes { seen.now.codes ≡ 2 * trail.now.atoms }
     requires fails { other ≢ literal → IsPlaced trail.now.steps (negated other) }
     ensures { IsTrue result → other ≢ literal
-        → IsFixed trail.now.steps (negated other) ⊎ Contains marks.now.marked (negated other) }
+        → IsFixed trail.now.steps (negated other) ⊎ Contains seen.now.marked (negated other) }
 {
     if other == literal {
         return true;
     }
     let cause = opposite(other);
-    if marks.contains(cause) {
+    if seen.contains(cause) {
         return true;
     }
     trail.level(cause / 2) == 0
 }
 
 /// Whether the literal is implied by others that are marked, or placed before the first decision.
-fn is_redundant(marks: &Marks, book: &Book, trail: &Trail, literal: u32) -> bool
+fn is_redundant(seen: &Seen, book: &Book, trail: &Trail, literal: u32) -> bool
     requires goes { Goes book.now trail.now }
-    requires codes { marks.now.codes ≡ 2 * trail.now.atoms }
+    requires codes { seen.now.codes ≡ 2 * trail.now.atoms }
     requires placed { IsPlaced trail.now.steps literal }
     ensures { IsTrue result
         → (place : ℕ) → place < length trail.now.steps → literal_at trail.now.steps place ≡ literal
-        → IsRedundant book.now.clauses trail.now.steps marks.now.marked place }
+        → IsRedundant book.now.clauses trail.now.steps seen.now.marked place }
 {
     let reason = match trail.reason(literal / 2) {
         Some(reason) => reason,
         None => return false,
     };
     for other in book.lits(reason) {
-        if !is_excused(marks, trail, literal, *other) {
+        if !is_excused(seen, trail, literal, *other) {
             return false;
         }
     }
@@ -194,7 +199,8 @@ fn is_redundant(marks: &Marks, book: &Book, trail: &Trail, literal: u32) -> bool
 /// Adds the negation of a marked literal of a lower level, unless it is redundant, and answers the highest level so far.
 fn take_marked(
     learned: &mut Vec<u32>,
-    marks: &Marks,
+    levels: &mut LevelCount,
+    seen: &Seen,
     book: &Book,
     trail: &Trail,
     literal: u32,
@@ -202,42 +208,46 @@ fn take_marked(
     target: u32,
 ) -> Result<u32, NoMemory>
     requires goes { Goes book.now trail.now }
-    requires codes { marks.now.codes ≡ 2 * trail.now.atoms }
+    requires codes { seen.now.codes ≡ 2 * trail.now.atoms }
     requires placed { IsPlaced trail.now.steps literal }
     ensures { IfOk result (λ next.
-        Takes book.now.clauses trail.now.steps marks.now.marked literal level learned.old.items learned.new.items target next) }
+        Takes book.now.clauses trail.now.steps seen.now.marked literal level learned.old.items learned.new.items target next) }
 {
     let at = trail.level(literal / 2);
     if at >= level {
         return Ok(target);
     }
-    if is_redundant(marks, book, trail, literal) {
+    if is_redundant(seen, book, trail, literal) {
         return Ok(target);
     }
     learned.push(opposite(literal))?;
+    levels.insert(at);
     Ok(target.max(at))
 }
 
 /// Writes the clause that the marks give, and answers the highest level of its literals but for the one at the place.
 pub fn learn(
     learned: &mut Vec<u32>,
-    marks: &Marks,
+    levels: &mut LevelCount,
+    seen: &Seen,
     book: &Book,
     trail: &Trail,
     place: u32,
     level: u32,
 ) -> Result<u32, NoMemory>
     requires goes { Goes book.now trail.now }
-    requires codes { marks.now.codes ≡ 2 * trail.now.atoms }
-    requires cut { IsCut book.now.clauses trail.now.steps marks.now.marked level place }
+    requires codes { seen.now.codes ≡ 2 * trail.now.atoms }
+    requires cut { IsCut book.now.clauses trail.now.steps seen.now.marked level place }
     ensures { IfOk result (λ target.
         IsLearned trail.now.atoms book.now.clauses trail.now.steps learned.new.items place target) }
 {
+    levels.restart();
+    levels.insert(level);
     learned.clear();
     learned.push(opposite(trail.at(place)))?;
     let mut target = 0;
-    for literal in marks.as_slice() {
-        target = take_marked(learned, marks, book, trail, *literal, level, target)?;
+    for literal in seen.as_slice() {
+        target = take_marked(learned, levels, seen, book, trail, *literal, level, target)?;
     }
     Ok(target)
 }

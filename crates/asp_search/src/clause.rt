@@ -4,12 +4,12 @@ ghost use Rattle.std.specs.Prelude.{◌≡◌, ℕ, ◌+◌, ◌*◌, ◌<◌, �
 ghost use Rattle.std.specs.List.{Contains};
 ghost use Rattle.asp_clauses.specs.Literal.{negated};
 ghost use Rattle.asp_search.specs.Meaning.{AddsClause};
-ghost use Rattle.asp_search.specs.Marks.{AreCodes};
+ghost use Rattle.asp_search.specs.Seen.{AreCodes};
 ghost use Rattle.asp_search.specs.Solver.{IsReady};
 ghost use Rattle.asp_search.specs.Clause.{KeepsAll, KeepsBook, IsTautology, Collects};
 
 use crate::NoMemory;
-use crate::marks::Marks;
+use crate::seen::Seen;
 use crate::solver::{Solver, opposite};
 use std::alloc::Global;
 
@@ -22,7 +22,7 @@ pub fn add_clause(solver: &mut Solver, alloc: Global, clause: &[u32]) -> Result<
     ensures unchanged { OnErr result (solver.new.book ≡ solver.old.book) }
 {
     let added = insert_clause(solver, alloc, clause);
-    solver.marks.clear();
+    solver.seen.clear();
     added
 }
 
@@ -34,30 +34,30 @@ fn insert_clause(solver: &mut Solver, alloc: Global, clause: &[u32]) -> Result<(
     ensures added { OnOk result (AddsClause solver.old.book.clauses solver.new.book.clauses clause.now) }
     ensures unchanged { OnErr result (solver.new.book ≡ solver.old.book) }
 {
-    if collect(&mut solver.marks, clause)? {
+    if collect(&mut solver.seen, clause)? {
         return Ok(());
     }
-    match solver.book.add(alloc, solver.marks.as_slice()) {
+    match solver.book.add(alloc, solver.seen.as_slice()) {
         Ok(_) => Ok(()),
         Err(fault) => Err(fault),
     }
 }
 
 /// Marks the literals of the clause; true where both literals of an atom stand in it.
-fn collect(marks: &mut Marks, clause: &[u32]) -> Result<bool, NoMemory>
-    requires codes { AreCodes marks.old.codes clause.now }
-    requires even { (code : ℕ) → code < marks.old.codes → negated code < marks.old.codes }
-    requires unmarked { marks.old.marked ≡ [] }
-    ensures codes { marks.new.codes ≡ marks.old.codes }
+fn collect(seen: &mut Seen, clause: &[u32]) -> Result<bool, NoMemory>
+    requires codes { AreCodes seen.old.codes clause.now }
+    requires even { (code : ℕ) → code < seen.old.codes → negated code < seen.old.codes }
+    requires unmarked { seen.old.marked ≡ [] }
+    ensures codes { seen.new.codes ≡ seen.old.codes }
     ensures collected { IfOk result (λ tautology. IsTrue tautology → IsTautology clause.now) }
-    ensures marked { IfOk result (λ tautology. tautology ≡ false → Collects clause.now marks.new.marked) }
+    ensures marked { IfOk result (λ tautology. tautology ≡ false → Collects clause.now seen.new.marked) }
 {
     for literal in clause {
-        if marks.contains(opposite(*literal)) {
+        if seen.contains(opposite(*literal)) {
             return Ok(true);
         }
-        if !marks.contains(*literal) {
-            marks.insert(*literal)?;
+        if !seen.contains(*literal) {
+            seen.insert(*literal)?;
         }
     }
     Ok(false)

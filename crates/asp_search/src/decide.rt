@@ -1,10 +1,11 @@
-//! Which atom is decided next, and with which phase: the one of the highest activity that waits in a heap.
+//! Which atom is decided next, and with which phase: the unassigned one of the highest activity, from a heap.
 //!
-//! Nothing but speed rests on activities and on the heap's order, so contracts say only what keeps a call safe.
+//! Nothing but speed rests on activities, phases and the heap's order, so contracts say only what keeps a call safe.
 
 ghost use Rattle.std.specs.Prelude.{◌≡◌, ℕ, ◌+◌, ◌*◌, ◌/◌, ◌<◌, ◌≤◌, ◌^◌, ◌⊎◌, false, length, None, IsTrue, IfOk, IfSome, OnSome, slice_index};
+ghost use Rattle.asp_clauses.specs.Literal.{most_atoms};
 ghost use Rattle.asp_clauses.specs.Trail.{IsPlaced, IsUnassigned};
-ghost use Rattle.asp_search.specs.Marks.{AreCodes};
+ghost use Rattle.asp_search.specs.Seen.{AreCodes};
 ghost use Rattle.asp_search.specs.Found.{IsTotal};
 
 use crate::NoMemory;
@@ -12,27 +13,27 @@ use asp_clauses::Trail;
 use std::alloc::Global;
 use std::marker::Model;
 
-/// An activity above this has all of them scaled down.
+/// Where an activity passes this, all are scaled down.
 const CEILING: u64 = 1 << 56;
 
-/// By how many bits.
+/// By how many bits activities are scaled down.
 const SCALE: u32 = 40;
 
-/// The first bump.
+/// What the first conflict adds to the activities of its atoms.
 const FIRST_BUMP: u64 = 1 << 16;
 
-/// The place of an atom that doesn't wait.
+/// The place of an atom that isn't in the heap.
 const ABSENT: u32 = u32::MAX;
 
-/// The order in which atoms are decided.
+/// Activities and phases of the atoms, and those that wait for a decision, in a heap by activity.
 #[derive(Drop)]
-pub struct Order {
-    // How often, and how lately, each atom was part of a conflict.
+pub struct DecisionHeap {
+    // The activity of each atom: the sum of the bumps at its conflicts, of which later ones are higher.
     activities: Vec<u64>,
-    // What the next part in a conflict adds.
+    // What the next conflict adds to the activities of its atoms.
     bump: u64,
     // The first `waiting` are the atoms that wait, no atom more active than the one above it.
-    heap: Vec<u32>,
+    slots: Vec<u32>,
     waiting: u32,
     // Where each atom stands in the heap.
     places: Vec<u32>,
@@ -40,31 +41,31 @@ pub struct Order {
     phases: Vec<bool>,
 }
 
-impl Model for Order {
-    ghost use Rattle.asp_search.specs.Order.{OrderState, IsOrder};
+impl Model for DecisionHeap {
+    ghost use Rattle.asp_search.specs.DecisionHeap.{HeapState, IsHeap};
     ghost use Rattle.std.specs.Prelude.{length};
 
-    ghost Value = { OrderState };
+    ghost Value = { HeapState };
 
     ghost view = { λ o. record { atoms = length o.activities.items; waiting = o.waiting } };
 
-    ghost invariant = { λ o. IsOrder o.activities.items o.heap.items o.waiting o.places.items o.phases.items };
+    ghost invariant = { λ o. IsHeap o.activities.items o.slots.items o.waiting o.places.items o.phases.items };
 }
 
-impl Order {
+impl DecisionHeap {
     /// All atoms wait.
-    pub fn new(alloc: Global, atoms: u32) -> Result<Order, NoMemory>
-        requires { atoms ≤ 262144 }
-        ensures { IfOk result (λ order. order.atoms ≡ atoms) }
+    pub fn new(alloc: Global, atoms: u32) -> Result<DecisionHeap, NoMemory>
+        requires { atoms ≤ most_atoms }
+        ensures { IfOk result (λ heap. heap.atoms ≡ atoms) }
     {
-        let mut heap = vec![in alloc; 0; atoms as usize]?;
+        let mut slots = vec![in alloc; 0; atoms as usize]?;
         let mut places = vec![in alloc; 0; atoms as usize]?;
-        number(&mut heap);
+        number(&mut slots);
         number(&mut places);
-        Ok(Order {
+        Ok(DecisionHeap {
             activities: vec![in alloc; 0; atoms as usize]?,
             bump: FIRST_BUMP,
-            heap,
+            slots,
             waiting: atoms,
             places,
             phases: vec![in alloc; false; atoms as usize]?,
@@ -78,15 +79,6 @@ impl Order {
         self.activities.len() as u32
     }
 
-    /// Lets all atoms wait.
-    pub fn refill(&mut self)
-        ensures { self.new.atoms ≡ self.old.atoms }
-    {
-        for atom in 0..self.atoms() {
-            self.insert(atom);
-        }
-    }
-
     /// Takes the most active of the atoms that wait.
     pub fn pop(&mut self) -> Option<u32>
         ensures atom { IfSome result (λ atom. atom < self.old.atoms) }
@@ -96,12 +88,12 @@ impl Order {
         if self.waiting == 0 {
             return None;
         }
-        let top = self.heap[0];
+        let top = self.slots[0];
         self.waiting -= 1;
         let last = self.waiting as usize;
-        exchange(&mut self.heap, &mut self.places, 0, last);
+        exchange(&mut self.slots, &mut self.places, 0, last);
         self.places[top as usize] = ABSENT;
-        sink(&mut self.heap, &mut self.places, &self.activities, last);
+        sink(&mut self.slots, &mut self.places, &self.activities, last);
         Some(top)
     }
 
@@ -111,11 +103,11 @@ impl Order {
         ensures { self.new.atoms ≡ self.old.atoms }
     {
         let last = self.waiting as usize;
-        if self.places[atom as usize] == ABSENT && last < self.heap.len() {
-            self.heap[last] = atom;
+        if self.places[atom as usize] == ABSENT && last < self.slots.len() {
+            self.slots[last] = atom;
             self.places[atom as usize] = self.waiting;
             self.waiting += 1;
-            raise(&mut self.heap, &mut self.places, &self.activities, last);
+            raise(&mut self.slots, &mut self.places, &self.activities, last);
         }
     }
 
@@ -133,7 +125,7 @@ impl Order {
         let place = self.places[atom as usize];
         if place < self.waiting {
             raise(
-                &mut self.heap,
+                &mut self.slots,
                 &mut self.places,
                 &self.activities,
                 place as usize,
@@ -141,11 +133,11 @@ impl Order {
         }
     }
 
-    /// Makes later bumps count more.
+    /// Makes later bumps count more: so all activities decay by a factor of 0.95, as they do in minisat.
     pub fn decay(&mut self)
         ensures { self.new.atoms ≡ self.old.atoms }
     {
-        self.bump = self.bump.saturating_add(self.bump / 16 + 1);
+        self.bump = self.bump.saturating_add(self.bump / 19 + 1);
     }
 
     /// The value that the atom had last.
@@ -165,35 +157,35 @@ impl Order {
 }
 
 /// An unassigned literal, or none where each atom has a value. `ordered` asks for the least unassigned atom, false.
-pub fn choose(order: &mut Order, trail: &Trail, ordered: bool) -> Option<u32>
-    requires order { order.old.atoms ≡ trail.now.atoms }
-    requires few { trail.now.atoms ≤ 262144 }
-    ensures order { order.new.atoms ≡ order.old.atoms }
+pub fn choose(heap: &mut DecisionHeap, trail: &Trail, ordered: bool) -> Option<u32>
+    requires heap { heap.old.atoms ≡ trail.now.atoms }
+    requires few { trail.now.atoms ≤ most_atoms }
+    ensures heap { heap.new.atoms ≡ heap.old.atoms }
     ensures code { IfSome result (λ literal. literal < 2 * trail.now.atoms) }
     ensures unassigned { IfSome result (IsUnassigned trail.now.steps) }
     ensures total { result ≡ None → IsTotal trail.now.atoms trail.now.steps }
 {
     if !ordered {
-        let active = most_active(order, trail);
+        let active = most_active(heap, trail);
         if active.is_some() {
             return active;
         }
     }
-    first_unassigned(order, trail)
+    first_unassigned(heap, trail)
 }
 
 /// The most active unassigned atom that waits, with the value that it had last.
-fn most_active(order: &mut Order, trail: &Trail) -> Option<u32>
-    requires order { order.old.atoms ≡ trail.now.atoms }
-    requires few { trail.now.atoms ≤ 262144 }
-    ensures order { order.new.atoms ≡ order.old.atoms }
+fn most_active(heap: &mut DecisionHeap, trail: &Trail) -> Option<u32>
+    requires heap { heap.old.atoms ≡ trail.now.atoms }
+    requires few { trail.now.atoms ≤ most_atoms }
+    ensures heap { heap.new.atoms ≡ heap.old.atoms }
     ensures code { IfSome result (λ literal. literal < 2 * trail.now.atoms) }
     ensures unassigned { IfSome result (IsUnassigned trail.now.steps) }
 {
-    while let Some(atom) = order.pop() {
+    while let Some(atom) = heap.pop() {
         if is_unassigned(trail, atom) {
             let negative = 2 * atom;
-            return Some(if order.phase(atom) {
+            return Some(if heap.phase(atom) {
                 negative + 1
             } else {
                 negative
@@ -204,14 +196,14 @@ fn most_active(order: &mut Order, trail: &Trail) -> Option<u32>
 }
 
 /// The negation of the least unassigned atom. Every atom is looked at where all have a value, as for a final answer.
-fn first_unassigned(order: &Order, trail: &Trail) -> Option<u32>
-    requires order { order.now.atoms ≡ trail.now.atoms }
-    requires few { trail.now.atoms ≤ 262144 }
+fn first_unassigned(heap: &DecisionHeap, trail: &Trail) -> Option<u32>
+    requires heap { heap.now.atoms ≡ trail.now.atoms }
+    requires few { trail.now.atoms ≤ most_atoms }
     ensures code { IfSome result (λ literal. literal < 2 * trail.now.atoms) }
     ensures unassigned { IfSome result (IsUnassigned trail.now.steps) }
     ensures total { result ≡ None → IsTotal trail.now.atoms trail.now.steps }
 {
-    for atom in 0..order.atoms() {
+    for atom in 0..heap.atoms() {
         if is_unassigned(trail, atom) {
             return Some(2 * atom);
         }
@@ -222,7 +214,7 @@ fn first_unassigned(order: &Order, trail: &Trail) -> Option<u32>
 /// Whether the atom has no value.
 fn is_unassigned(trail: &Trail, atom: u32) -> bool
     requires atom { atom < trail.now.atoms }
-    requires few { trail.now.atoms ≤ 262144 }
+    requires few { trail.now.atoms ≤ most_atoms }
     ensures unassigned { IsTrue result → IsUnassigned trail.now.steps (2 * atom) }
     ensures assigned { result ≡ false → IsPlaced trail.now.steps (2 * atom + 1) ⊎ IsPlaced trail.now.steps (2 * atom) }
 {
@@ -234,7 +226,7 @@ fn is_unassigned(trail: &Trail, atom: u32) -> bool
 
 /// Writes each place's number.
 fn number(numbers: &mut [u32])
-    requires { length numbers.old ≤ 262144 }
+    requires { length numbers.old ≤ most_atoms }
     ensures { AreCodes (length numbers.new) numbers.new }
 {
     for place in 0..numbers.len() {
@@ -251,7 +243,7 @@ fn scale_down(activities: &mut [u64]) {
 
 /// Exchanges two atoms of the heap.
 fn exchange(heap: &mut [u32], places: &mut [u32], first: usize, second: usize)
-    requires few { length heap.old ≤ 262144 }
+    requires few { length heap.old ≤ most_atoms }
     requires first { first < length heap.old }
     requires second { second < length heap.old }
     requires codes { AreCodes (length places.old) heap.old }
@@ -267,7 +259,7 @@ fn exchange(heap: &mut [u32], places: &mut [u32], first: usize, second: usize)
 
 /// Moves an atom of the heap up to its place.
 fn raise(heap: &mut [u32], places: &mut [u32], activities: &[u64], start: usize)
-    requires few { length heap.old ≤ 262144 }
+    requires few { length heap.old ≤ most_atoms }
     requires start { start < length heap.old }
     requires codes { AreCodes (length places.old) heap.old }
     requires activities { length activities.now ≡ length places.old }
@@ -286,7 +278,7 @@ fn raise(heap: &mut [u32], places: &mut [u32], activities: &[u64], start: usize)
 
 /// Moves the top of the heap, of which the first `end` atoms wait, down to its place.
 fn sink(heap: &mut [u32], places: &mut [u32], activities: &[u64], end: usize)
-    requires few { length heap.old ≤ 262144 }
+    requires few { length heap.old ≤ most_atoms }
     requires end { end ≤ length heap.old }
     requires codes { AreCodes (length places.old) heap.old }
     requires activities { length activities.now ≡ length places.old }
@@ -307,7 +299,7 @@ fn sink(heap: &mut [u32], places: &mut [u32], activities: &[u64], end: usize)
 fn more_active(heap: &[u32], activities: &[u64], left: usize, end: usize) -> usize
     requires left { left < end }
     requires end { end ≤ length heap.now }
-    requires few { length heap.now ≤ 262144 }
+    requires few { length heap.now ≤ most_atoms }
     requires codes { AreCodes (length activities.now) heap.now }
     ensures within { result < end }
     ensures below { left ≤ result }

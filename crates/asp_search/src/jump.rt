@@ -2,16 +2,18 @@
 //! literal.
 
 ghost use Rattle.std.specs.Prelude.{◌≡◌, ◌↔◌, ℕ, ◌+◌, ◌*◌, ◌/◌, ◌<◌, ◌≤◌, ◌^◌, length, false, true, Ok, Err, IfOk, OnOk};
-ghost use Rattle.asp_clauses.specs.Trail.{IsFalse, clause_at};
+ghost use Rattle.asp_clauses.specs.Trail.{IsFalse, StandsAt, clause_at, level_at};
 ghost use Rattle.asp_clauses.specs.Visits.{IsConflict};
 ghost use Rattle.asp_search.specs.Analysis.{IsLearned, IsTopLevel};
-ghost use Rattle.asp_search.specs.Solver.{IsReady, Stays, AreRefuted};
+ghost use Rattle.asp_search.specs.Solver.{IsReady, IsRewound, Stays, AreRefuted};
 ghost use Rattle.asp_search.specs.Deriving.{Derives, Keeps};
 
 use crate::NoMemory;
 use crate::analyze::{conflict_level, learn, resolve_conflict};
-use crate::decide::Order;
+use crate::decide::DecisionHeap;
+use crate::drop::drop_learned;
 use crate::fault::SearchFault;
+use crate::minimize::mark_implied;
 use crate::solver::{Solver, opposite};
 use asp_clauses::Trail;
 use std::alloc::Global;
@@ -34,10 +36,12 @@ pub fn handle_conflict(
         return Ok(false);
     }
     let derived = derive(solver, conflict, level);
-    solver.marks.clear();
+    solver.seen.clear();
     match derived {
         Ok((place, target)) => {
-            go_back(solver, alloc, place, target)?;
+            let level = jump_level(solver, place, target);
+            go_back(solver, alloc, place, level)?;
+            drop_learned(solver, alloc);
             Ok(true)
         }
         Err(_) => Err(SearchFault::NoMemory),
@@ -55,22 +59,42 @@ fn derive(solver: &mut Solver, conflict: u32, level: u32) -> Result<(u32, u32), 
     ensures derives { IfOk result (λ r. Derives solver.new r.0 r.1) }
 {
     let place = resolve_conflict(
-        &mut solver.marks,
-        &mut solver.order,
+        &mut solver.seen,
+        &mut solver.heap,
+        &mut solver.activity,
         &solver.book,
         &solver.trail,
         conflict,
         level,
     )?;
+    mark_implied(&mut solver.seen, &solver.book, &solver.trail, level)?;
     let target = learn(
         &mut solver.learned,
-        &solver.marks,
+        &mut solver.levels,
+        &solver.seen,
         &solver.book,
         &solver.trail,
         place,
         level,
     )?;
     Ok((place, target))
+}
+
+/// The level to go back to: the lowest at which the clause implies its literal, or a higher one where that keeps
+/// assumptions decided which would else be decided again.
+fn jump_level(solver: &Solver, place: u32, target: u32) -> u32
+    requires ready { IsReady solver.now }
+    requires derives { Derives solver.now place target }
+    ensures { Derives solver.now place result }
+{
+    let level = solver.trail.level(solver.trail.at(place) / 2);
+    if solver.held <= target {
+        return target;
+    }
+    if solver.held < level {
+        return solver.held;
+    }
+    level - 1
 }
 
 /// Adds the learned clause, and goes back to where it implies the negation of the literal at the place.
@@ -82,35 +106,50 @@ fn go_back(solver: &mut Solver, alloc: Global, place: u32, target: u32) -> Resul
     ensures spent { result ≡ Err SearchFault.Spent → solver.new.trail.count ≡ solver.new.trail.budget }
 {
     let literal = opposite(solver.trail.at(place));
-    let added = solver.book.add(alloc, solver.learned.as_slice());
+    let score = solver.levels.len();
+    let added = solver
+        .book
+        .add_learned(alloc, solver.learned.as_slice(), false, score);
     let number = match added {
         Ok(number) => number,
         Err(_) => return Err(SearchFault::NoMemory),
     };
-    release(&mut solver.order, &solver.trail, target);
+    unwind(&mut solver.heap, &solver.trail, target.saturating_add(1));
     match solver.trail.jump(&solver.book, target, literal, number) {
         Ok(()) => {
-            solver.cursor = solver.cursor.min(target as usize);
-            solver.order.decay();
+            rewind(&mut solver.cursor, &mut solver.held, target);
+            solver.heap.decay();
+            // A clause that isn't listed counts as one that was never active.
+            let _ = solver.activity.list(number);
             Ok(())
         }
         Err(_) => Err(SearchFault::Spent),
     }
 }
 
-/// Keeps the phases of the literals above the level, and lets their atoms wait again.
-fn release(order: &mut Order, trail: &Trail, target: u32)
-    requires { order.old.atoms ≡ trail.now.atoms }
-    ensures { order.new.atoms ≡ order.old.atoms }
+/// Has the assumptions that the level doesn't keep looked at again.
+fn rewind(cursor: &mut usize, held: &mut u32, level: u32)
+    ensures { IsRewound cursor.old held.old level cursor.new held.new }
+{
+    if *held > level {
+        *cursor = (*cursor).min(level as usize);
+        *held = level;
+    }
+}
+
+/// Keeps the phases of the literals that aren't of the first levels, as many as `levels`, and lets their atoms wait again.
+pub fn unwind(heap: &mut DecisionHeap, trail: &Trail, levels: u32)
+    requires { heap.old.atoms ≡ trail.now.atoms }
+    ensures { heap.new.atoms ≡ heap.old.atoms }
 {
     let mut end = trail.len();
     while end > 0 {
         end -= 1;
         let literal = trail.at(end);
-        if trail.level(literal / 2) <= target {
+        if trail.level(literal / 2) < levels {
             return;
         }
-        order.keep_phase(literal / 2, literal % 2 == 1);
-        order.insert(literal / 2);
+        heap.keep_phase(literal / 2, literal % 2 == 1);
+        heap.insert(literal / 2);
     }
 }

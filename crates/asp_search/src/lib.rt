@@ -1,21 +1,26 @@
 //! A clause-learning search for an assignment that satisfies clauses under assumptions.
 //!
 //! # Idea
-//! - The assumptions are decided first, one level each; then atoms of high activity are, with the phase that they
-//!   had last. Propagation places what follows.
+//! - The assumptions are decided first, one level each; then the atom of the highest activity, with the phase that it
+//!   had last. Propagation by two watched literals places what follows.
 //! - A false clause is resolved with the reasons of its literals, backwards along the trail, until one literal of its
-//!   level is left. What is learned follows from the clauses alone, so it stays for later searches.
-//! - The search goes back to the second highest level of the learned clause, which then implies its one literal.
+//!   level is left: the first unique implication point. The clause that is learned follows from the clauses alone, so it
+//!   stays for later searches.
+//! - The search goes back to the second highest level of the learned clause, which then implies its one literal; or less
+//!   far, where assumptions would have to be decided again.
 //!   There are no restarts: each jump raises the number that the trail is in base 3, so every search ends.
 //! - Where an assumption is false when its turn comes, the decisions that its negation rests on are the core.
 //!
 //! # Map
 //! | module | state or step |
 //! |---|---|
-//! | `marks` | a set of literals that is cleared in the time it took to mark them |
+//! | `seen` | the literals that an analysis has marked |
 //! | `decide` | activities, the heap of atoms, phases: which literal is decided next |
-//! | `solver` | what a search works on: book, trail, order, marks, assumptions |
+//! | `solver` | what a search works on: book, trail, decision heap, seen literals, assumptions |
 //! | `analyze` | a conflict, resolved down to one literal of its level, and the clause that is learned |
+//! | `minimize` | what follows from the marked literals, so that the learned clause needn't name it |
+//! | `activity` | how active clauses were, and how many decision levels they have |
+//! | `drop` | learned clauses are dropped at growing intervals |
 //! | `jump` | the learned clause is added, and the trail goes back to where it implies a literal |
 //! | `cores` | the assumptions that a false assumption rests on |
 //! | `clause` | a clause as callers give it: repeated literals, both literals of an atom |
@@ -24,16 +29,19 @@
 //! | `laws` | what is kept of the added clauses |
 #![tactic(auto)]
 
+mod activity;
 mod analyze;
 mod clause;
 mod cores;
 mod decide;
+mod drop;
 mod fault;
 mod jump;
 mod laws;
-mod marks;
+mod minimize;
 mod outcome;
 mod search;
+mod seen;
 mod solver;
 mod stage;
 mod steps;

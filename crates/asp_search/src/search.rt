@@ -1,18 +1,21 @@
 //! The calls of a search.
 
-ghost use Rattle.std.specs.Prelude.{◌≡◌, ◌≢◌, ℕ, ◌+◌, ◌*◌, ◌<◌, ◌≤◌, ◌^◌, List, [], length, Ok, Err, IfOk, OnOk, OnErr};
+ghost use Rattle.std.specs.Prelude.{◌≡◌, ◌≢◌, ℕ, ◌+◌, ◌*◌, ◌<◌, ◌≤◌, ◌^◌, List, [], length, Some, None, Ok, Err, IfOk, IfSome, OnOk, OnErr};
+ghost use Rattle.asp_clauses.specs.Literal.{most_atoms};
 ghost use Rattle.asp_search.specs.Meaning.{SameMeaning};
-ghost use Rattle.asp_search.specs.Marks.{AreCodes};
+ghost use Rattle.asp_search.specs.Seen.{AreCodes};
 ghost use Rattle.asp_search.specs.Cores.{IsCore};
 ghost use Rattle.asp_search.specs.Found.{assignment_of};
 ghost use Rattle.asp_search.specs.State.{IsFresh, Adds, AreDifferent, GoesOn, IsFound, HasFound};
 
 use crate::NoMemory;
+use crate::activity::{ClauseActivity, LevelCount};
 use crate::clause::add_clause;
-use crate::decide::Order;
+use crate::decide::DecisionHeap;
 use crate::fault::SearchFault;
-use crate::marks::Marks;
+use crate::jump::unwind;
 use crate::outcome::Outcome;
+use crate::seen::Seen;
 use crate::solver::{Solver, is_true};
 use crate::stage::Stage;
 use crate::steps::run;
@@ -35,6 +38,8 @@ use std::marker::Model;
 pub struct Search {
     solver: Solver,
     budget: u64,
+    // How `next` was asked since `begin`; none before its first call.
+    ordered: Option<bool>,
     stage: Stage,
 }
 
@@ -54,26 +59,31 @@ impl Search {
     /// A search without clauses over the atoms below `atoms`, each run of which places at most `budget` literals.
     /// `NoMemory`: memory was refused.
     pub fn new(alloc: Global, atoms: u32, budget: u64) -> Result<Search, NoMemory>
-        requires { atoms ≤ 262144 }
+        requires { atoms ≤ most_atoms }
         ensures { IfOk result (λ search. IsFresh search atoms budget) }
     {
         let book = Book::new(alloc, atoms)?;
         let trail = Trail::new(alloc, atoms, budget)?;
-        let order = Order::new(alloc, atoms)?;
-        let marks = Marks::new(alloc, 2 * atoms)?;
+        let heap = DecisionHeap::new(alloc, atoms)?;
+        let seen = Seen::new(alloc, 2 * atoms)?;
+        let levels = LevelCount::new(alloc, atoms)?;
         let solver = Solver {
             book,
             trail,
-            order,
-            marks,
+            heap,
+            seen,
+            activity: ClauseActivity::new(alloc),
+            levels,
             learned: Vec::new(alloc),
             assumed: Vec::new(alloc),
             cursor: 0,
+            held: 0,
             decided: 0,
         };
         Ok(Search {
             solver,
             budget,
+            ordered: None,
             stage: Stage::New,
         })
     }
@@ -93,34 +103,39 @@ impl Search {
         Ok(())
     }
 
-    /// Begins a search under assumptions. What was learned before stays. `NoMemory`: memory was refused; the search is as
+    /// Begins a search under assumptions. What was learned before stays, and so do activities and phases. `NoMemory`: memory was refused; the search is as
     /// it was.
     pub fn begin(&mut self, alloc: Global, assume: &[u32]) -> Result<(), NoMemory>
         requires codes { AreCodes (2 * self.old.atoms) assume.now }
         requires different { AreDifferent assume.now }
         ensures begun { OnOk result
-            (self.new ≡ record self.old { count = 0; assumed = assume.now; trail = []; stage = Stage.Begun }) }
+            (self.new ≡ record self.old { count = 0; assumed = assume.now; trail = []; ordered = None; stage = Stage.Begun }) }
         ensures unchanged { OnErr result (self.new ≡ self.old) }
     {
         let assumed = Vec::from_slice(alloc, assume)?;
+        self.ordered = None;
         self.stage = Stage::Begun;
+        unwind(&mut self.solver.heap, &self.solver.trail, 0);
         self.solver.trail.reset();
-        self.solver.order.refill();
         self.solver.assumed = assumed;
         self.solver.cursor = 0;
+        self.solver.held = 0;
         Ok(())
     }
 
     /// Searches on. After a fault the same fault is answered until the next `begin`, and after `Found` the same until
-    /// a clause is added. `Spent`: as many literals were placed since `begin` as the budget allows. `NoMemory`: memory was
-    /// refused; added clauses stay. `ordered` decides the first unassigned atom, false.
+    /// a clause is added. `ordered`, the same in all calls since `begin`, decides the first unassigned atom, false, each time;
+    /// else activities and phases choose. `Spent`: as many literals were placed since `begin` as the budget allows.
+    /// `NoMemory`: memory was refused; added clauses stay.
     pub fn next(&mut self, alloc: Global, ordered: bool) -> Result<Outcome, SearchFault>
-        requires { self.old.stage ≢ Stage.New }
+        requires begun { self.old.stage ≢ Stage.New }
+        requires same { IfSome self.old.ordered (λ was. was ≡ ordered) }
         ensures goes_on { GoesOn self.old self.new }
         ensures found { result ≡ Ok Outcome.Found → IsFound self.new }
         ensures core { (core : List ℕ) → result ≡ Ok (Outcome.Core core) → IsCore self.old.clauses self.old.assumed core }
         ensures spent { result ≡ Err SearchFault.Spent → self.new.count ≡ self.new.budget }
         ensures few { self.new.count < 3 ^ self.new.atoms }
+        ensures ordered { self.new.ordered ≡ Some ordered }
 
         // The stage after each answer.
         ensures stage_found { result ≡ Ok Outcome.Found → self.new.stage ≡ Stage.Found }
@@ -139,6 +154,7 @@ impl Search {
             Stage::Spent => Err(SearchFault::Spent),
             Stage::NoMemory => Err(SearchFault::NoMemory),
             Stage::New | Stage::Begun | Stage::Extended => {
+                self.ordered = Some(ordered);
                 let outcome = run(&mut self.solver, alloc, ordered);
                 self.stage = stage_after(&outcome);
                 outcome
@@ -174,6 +190,19 @@ impl Search {
         ensures { result ≡ self.now.count }
     {
         self.solver.trail.count()
+    }
+
+    /// How many conflicts taught a clause since the search was made.
+    pub fn conflicts(&self) -> u64 {
+        self.solver.activity.total()
+    }
+
+    /// Has half of the learned clauses dropped after so many conflicts, and then at intervals that grow by an eighth each: a
+    /// short interval, as for tests, forgets more. It changes how long a search takes and no answer's meaning.
+    pub fn set_interval(&mut self, conflicts: u64)
+        ensures { self.new ≡ self.old }
+    {
+        self.solver.activity.set_interval(conflicts);
     }
 
     /// How many literals were decided since the search was made.

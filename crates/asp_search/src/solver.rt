@@ -4,8 +4,9 @@ ghost use Rattle.std.specs.Prelude.{◌≡◌, ◌↔◌, ℕ, ◌*◌, ◌<◌,
 ghost use Rattle.asp_clauses.specs.Literal.{negated};
 ghost use Rattle.asp_clauses.specs.Trail.{IsPlaced};
 
-use crate::decide::Order;
-use crate::marks::Marks;
+use crate::activity::{ClauseActivity, LevelCount};
+use crate::decide::DecisionHeap;
+use crate::seen::Seen;
 use asp_clauses::{Book, Trail};
 
 /// The state of a search between two steps.
@@ -13,14 +14,20 @@ use asp_clauses::{Book, Trail};
 pub struct Solver {
     pub book: Book,
     pub trail: Trail,
-    pub order: Order,
-    // All marks are taken back at the end of each step.
-    pub marks: Marks,
+    pub heap: DecisionHeap,
+    // The literals that an analysis marked; empty between two steps.
+    pub seen: Seen,
+    // How active each clause was, and when learned ones are dropped next.
+    pub activity: ClauseActivity,
+    // The decision levels of the clause that is being learned.
+    pub levels: LevelCount,
     // The clause that is being learned.
     pub learned: Vec<u32>,
     pub assumed: Vec<u32>,
     // The assumptions before this one are true.
     pub cursor: usize,
+    // They are true by the first decisions, as many as this.
+    pub held: u32,
     // How many literals were decided since the search was made.
     pub decided: u64,
 }

@@ -87,7 +87,7 @@ fn decide(solver: &mut Solver, alloc: Global, ordered: bool) -> Result<Option<Ou
     if let Some(literal) = next_assumption(solver) {
         return assume(solver, alloc, literal);
     }
-    match choose(&mut solver.order, &solver.trail, ordered) {
+    match choose(&mut solver.heap, &solver.trail, ordered) {
         Some(literal) => {
             place(solver, literal)?;
             Ok(None)
@@ -110,6 +110,7 @@ fn next_assumption(solver: &mut Solver) -> Option<u32>
             return Some(literal);
         }
         solver.cursor += 1;
+        solver.held = solver.trail.decisions();
     }
     None
 }
@@ -126,11 +127,12 @@ fn assume(solver: &mut Solver, alloc: Global, literal: u32) -> Result<Option<Out
     ensures spent { result ≡ Err SearchFault.Spent → solver.new.trail.count ≡ solver.new.trail.budget }
 {
     if is_true(&solver.trail, opposite(literal)) {
-        return refuse(solver, alloc, literal);
+        return core_of_false(solver, alloc, literal);
     }
     match solver.trail.decide(literal) {
         Ok(()) => {
             solver.cursor += 1;
+            solver.held = solver.trail.decisions();
             solver.decided = solver.decided.saturating_add(1);
             Ok(None)
         }
@@ -139,7 +141,11 @@ fn assume(solver: &mut Solver, alloc: Global, literal: u32) -> Result<Option<Out
 }
 
 /// The core of an assumption that is false.
-fn refuse(solver: &mut Solver, alloc: Global, literal: u32) -> Result<Option<Outcome>, SearchFault>
+fn core_of_false(
+    solver: &mut Solver,
+    alloc: Global,
+    literal: u32,
+) -> Result<Option<Outcome>, SearchFault>
     requires ready { IsReady solver.old }
     requires next { IsNext solver.old literal }
     requires fails { IsPlaced solver.old.trail.steps (negated literal) }
@@ -151,14 +157,14 @@ fn refuse(solver: &mut Solver, alloc: Global, literal: u32) -> Result<Option<Out
     ensures not_spent { result ≢ Err SearchFault.Spent }
 {
     let core = core_of(
-        &mut solver.marks,
-        &mut solver.order,
+        &mut solver.seen,
+        &mut solver.heap,
         &solver.book,
         &solver.trail,
         alloc,
         literal,
     );
-    solver.marks.clear();
+    solver.seen.clear();
     match core {
         Ok(core) => Ok(Some(Outcome::Core(List::from_vec(core)))),
         Err(_) => Err(SearchFault::NoMemory),
@@ -181,6 +187,10 @@ fn place(solver: &mut Solver, literal: u32) -> Result<(), SearchFault>
             solver.decided = solver.decided.saturating_add(1);
             Ok(())
         }
-        Err(_) => Err(SearchFault::Spent),
+        Err(_) => {
+            // It was taken from the heap.
+            solver.heap.insert(literal / 2);
+            Err(SearchFault::Spent)
+        }
     }
 }

@@ -1,7 +1,8 @@
 //! Formulas in DIMACS form: comments, a line `p cnf ATOMS CLAUSES`, and clauses, each ended by 0.
 
 ghost use Rattle.std.specs.Prelude.{◌≡◌, ℕ, ◌+◌, ◌*◌, ◌<◌, ◌≤◌, ◌^◌, length, IfOk, IfSome};
-ghost use Rattle.asp_search.specs.Marks.{AreCodes};
+ghost use Rattle.asp_clauses.specs.Literal.{most_atoms};
+ghost use Rattle.asp_search.specs.Seen.{AreCodes};
 
 use asp_search::Search;
 use std::alloc::{AllocError, Global};
@@ -25,7 +26,7 @@ pub enum DimacsError {
     /// The last clause isn't ended.
     #[error("the last clause is not ended by 0")]
     Unended,
-    /// Want of memory.
+    /// Memory was refused.
     #[error("out of memory")]
     NoMemory(#[from] AllocError),
 }
@@ -36,7 +37,7 @@ struct Formula {
     search: Search,
     atoms: u32,
     clause: Vec<u32>,
-    ghost few: { atoms ≤ 262144 },
+    ghost few: { atoms ≤ most_atoms },
     ghost same_atoms: { search.atoms ≡ atoms },
     ghost codes: { AreCodes (2 * atoms) clause.items },
 }
@@ -64,7 +65,7 @@ impl Formula {
 
 /// The code of a literal: twice the atom, counted from 0, and one more where it is positive.
 fn code(number: i32, atoms: u32) -> Option<u32>
-    requires { atoms ≤ 262144 }
+    requires { atoms ≤ most_atoms }
     ensures { IfSome result (λ code. code < 2 * atoms) }
 {
     let atom = number.unsigned_abs();
@@ -76,7 +77,7 @@ fn code(number: i32, atoms: u32) -> Option<u32>
 
 /// How many atoms the header names.
 fn atoms(text: &str) -> Result<u32, DimacsError>
-    ensures { IfOk result (λ atoms. atoms ≤ 262144) }
+    ensures { IfOk result (λ atoms. atoms ≤ most_atoms) }
 {
     for line in text.lines() {
         if line.starts_with("p cnf ") {
@@ -87,7 +88,7 @@ fn atoms(text: &str) -> Result<u32, DimacsError>
 }
 
 fn header(line: &str) -> Result<u32, DimacsError>
-    ensures { IfOk result (λ atoms. atoms ≤ 262144) }
+    ensures { IfOk result (λ atoms. atoms ≤ most_atoms) }
 {
     match line.split_whitespace().nth(2) {
         Some(word) => match word.parse::<u32>() {

@@ -16,14 +16,12 @@ use std::io;
 fn main(rt: HostRuntime) -> Result<()> {
     let text = io::read_to_string(rt.alloc(), rt.stdin())?;
     let mut search = read(rt.alloc(), text.as_str())?;
-    let added = search.clauses();
     let answer = match solve(rt.alloc(), &mut search)? {
         Outcome::Found => "SATISFIABLE",
         Outcome::Core(_) => "UNSATISFIABLE",
     };
     println!(rt; "{answer}")?;
-    // A conflict teaches one clause, but for the last one.
-    let conflicts = search.clauses().saturating_sub(added);
+    let conflicts = search.conflicts();
     let decisions = search.decisions();
     let placements = search.placements();
     println!(rt; "decisions {decisions} conflicts {conflicts} placements {placements}")?;

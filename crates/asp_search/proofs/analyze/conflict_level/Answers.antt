@@ -5,7 +5,7 @@ use Rattle.asp_clauses.specs.Literal.{negated}
 use Rattle.asp_clauses.specs.Trail.{IsPlaced}
 use Rattle.asp_clauses.proofs.LiteralLemmas.{negated-half}
 use Rattle.asp_clauses.proofs.ReorderLemmas.{Contains-at}
-use Rattle.asp_search.proofs.Blaming.{IsTopLevel-more, ord_max-highest}
+use Rattle.asp_search.proofs.Marking.{IsTopLevel-more, ord_max-highest}
 use Rattle.asp_search.proofs.analyze.conflict_level.Goals as goal
 use Rattle.asp_search.proofs.analyze.conflict_level.Goals.{In-loop-literal}
 

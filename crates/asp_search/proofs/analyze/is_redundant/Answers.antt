@@ -32,7 +32,7 @@ loop-other-preserved c = λ other has ne.
     ⊎_elim
     (λ (h : Contains (take c.loop-other.other-index items) other). c.loop-other.invariant other h ne)
     (λ (e : this ≡ other).
-    subst (λ (x : ℕ). IsFixed c.args.trail.now.steps (negated x) ⊎ Contains c.args.marks.now.marked (negated x)) e (c.is_excused.ensures c.if-not-is_excused.false (λ (q : this ≡ c.args.literal). ne (sym e ∙ q))))
+    subst (λ (x : ℕ). IsFixed c.args.trail.now.steps (negated x) ⊎ Contains c.args.seen.now.marked (negated x)) e (c.is_excused.ensures c.if-not-is_excused.false (λ (q : this ≡ c.args.literal). ne (sym e ∙ q))))
     (Contains-push_cases (take c.loop-other.other-index items) this other (subst (λ (l : List ℕ). Contains l other) (take_more items c.loop-other.other-index 0 c.loop-other-test.true) has))
 
 pub returns : goal.returns

@@ -3,4 +3,4 @@ use Rattle.asp_search.proofs.analyze.learn.Given as goal
 
 abbrev pub invariant-loop-literal : goal.invariant-loop-literal
 invariant-loop-literal l =
-    IsLearning l.book.clauses l.trail.steps l.marks.marked l.level l.place l.learned.items l.literal-index l.target
+    IsLearning l.book.clauses l.trail.steps l.seen.marked l.level l.place l.learned.items l.literal-index l.target

@@ -4,7 +4,7 @@ use Rattle.asp_search.proofs.analyze.resolve_conflict.Given as goal
 
 abbrev pub invariant-loop-left : goal.invariant-loop-left
 invariant-loop-left l =
-    AreKept l.initial.marks l.initial.order l.marks l.order × IsWalk l.book.clauses l.trail.steps l.marks.marked l.level l.end l.pending
+    AreKept l.initial.seen l.initial.heap l.seen l.heap × IsWalk l.book.clauses l.trail.steps l.seen.marked l.level l.end l.pending
 
 abbrev pub decreases-loop-left : goal.decreases-loop-left
 decreases-loop-left l = l.end

@@ -6,7 +6,7 @@ pub returns-clause-keeps : goal.returns-clause-keeps
 returns-clause-keeps c =
     let k = c.insert_clause-added.ensures.keeps in
     record {
-      ready = IsReady-book c.args.solver.now _ c.requires.ready (record { goes = k.goes; ranges = k.ranges; trail = k.trail; assumed = k.assumed; cursor = k.cursor; codes = c.clear.ensures.codes ∙ k.codes; order = k.order; decided = k.decided }) c.clear.ensures.none;
+      ready = IsReady-book c.args.solver.now _ c.requires.ready (record { goes = k.goes; ranges = k.ranges; learned = k.learned; trail = k.trail; assumed = k.assumed; cursor = k.cursor; held = k.held; codes = c.clear.ensures.codes ∙ k.codes; heap = k.heap; decided = k.decided }) c.clear.ensures.none;
       trail = k.trail;
       assumed = k.assumed;
       decided = k.decided;

@@ -1,9 +1,11 @@
 use Rattle.std.proofs.Common.{◌≡◌, ◌*◌, ℕ, List, ◌∙◌, sym, subst, refl, arith}
 use Rattle.asp_clauses.specs.Book.{IsClause}
-use Rattle.asp_search.specs.Marks.{AreCodes}
+use Rattle.asp_search.specs.Seen.{AreCodes}
 use Rattle.asp_search.specs.Clause.{Collects}
 use Rattle.asp_clauses.proofs.LiteralLemmas.{negated-lt}
 use Rattle.asp_search.proofs.Stepping.{AreInRange-push}
+use Rattle.asp_clauses.specs.Kept.{no_kind}
+use Rattle.asp_search.proofs.LearnedClauses.{AreLearned-added}
 use Rattle.asp_search.proofs.Adding.{IsClause-collected, AddsClause-collected, AddsClause-tautology}
 use Rattle.asp_search.proofs.clause.insert_clause.Goals as goal
 use Rattle.asp_search.proofs.clause.insert_clause.Goals.{After-as_slice}
@@ -22,7 +24,7 @@ collects c =
 
 is_clause : (c : After-as_slice) → IsClause c.args.solver.now.trail.atoms c.as_slice.result.now
 is_clause c =
-    let limit : c.collect.new.marks.codes ≡ 2 * c.args.solver.now.trail.atoms = c.collect.ensures.codes ∙ c.requires.ready.fitted.codes in
+    let limit : c.collect.new.seen.codes ≡ 2 * c.args.solver.now.trail.atoms = c.collect.ensures.codes ∙ c.requires.ready.fitted.codes in
     IsClause-collected c.args.solver.now.trail.atoms c.args.clause.now c.as_slice.result.now (subst (λ (n : ℕ). AreCodes n c.as_slice.result.now) limit c.as_slice.ensures.codes) c.as_slice.ensures.distinct (collects c)
 
 pub add-requires : goal.add-requires
@@ -36,11 +38,13 @@ returns-in-Ok-clause-keeps c =
     record {
       goes = c.in-Ok.ensures.goes old.trail c.requires.ready.fitted.goes;
       ranges = rw c.in-Ok.ensures.added (AreInRange-push old.trail.atoms old.book.clauses c.as_slice.result.now (is_clause d) c.requires.ready.ranges);
+      learned = rw (c.in-Ok.ensures.added, c.in-Ok.ensures.kinds) (AreLearned-added old.book.kinds old.book.clauses no_kind c.as_slice.result.now refl c.requires.ready.learned);
       trail = refl;
       assumed = refl;
       cursor = refl;
+      held = refl;
       codes = c.collect.ensures.codes;
-      order = refl;
+      heap = refl;
       decided = refl;
     }
 
@@ -55,10 +59,12 @@ returns-in-Err-clause-keeps c =
     record {
       goes = rw same c.requires.ready.fitted.goes;
       ranges = rw same c.requires.ready.ranges;
+      learned = rw same c.requires.ready.learned;
       trail = refl;
       assumed = refl;
       cursor = refl;
+      held = refl;
       codes = c.collect.ensures.codes;
-      order = refl;
+      heap = refl;
       decided = refl;
     }

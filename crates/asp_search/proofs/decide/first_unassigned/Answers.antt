@@ -7,4 +7,4 @@ loop-atom-preserved c =
 
 pub returns-clause-total : goal.returns-clause-total
 returns-clause-total c = λ _ atom low.
-    c.loop-atom.invariant atom (omega (arith, low, c.loop-atom-test.false, c.atoms-atom-end.ensures, c.requires.order))
+    c.loop-atom.invariant atom (omega (arith, low, c.loop-atom-test.false, c.atoms-atom-end.ensures, c.requires.heap))

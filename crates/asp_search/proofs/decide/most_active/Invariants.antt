@@ -2,7 +2,7 @@ use Rattle.std.proofs.Common.{◌≡◌}
 use Rattle.asp_search.proofs.decide.most_active.Given as goal
 
 abbrev pub invariant-loop-atom : goal.invariant-loop-atom
-invariant-loop-atom l = l.order.atoms ≡ l.initial.order.atoms
+invariant-loop-atom l = l.heap.atoms ≡ l.initial.heap.atoms
 
 abbrev pub decreases-loop-atom : goal.decreases-loop-atom
-decreases-loop-atom l = l.order.waiting
+decreases-loop-atom l = l.heap.waiting

@@ -1,5 +1,5 @@
 use Rattle.std.proofs.Common.{◌≤◌, ◌-◌, length}
-use Rattle.asp_search.specs.Marks.{AreCodes}
+use Rattle.asp_search.specs.Seen.{AreCodes}
 use Rattle.asp_search.proofs.decide.sink.Given as goal
 
 abbrev pub invariant-loop-at : goal.invariant-loop-at

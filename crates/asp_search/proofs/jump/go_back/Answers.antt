@@ -1,22 +1,37 @@
-use Rattle.std.proofs.Common.{ℕ, List, ap, ◌∙◌, refl, arith}
-use Rattle.asp_clauses.specs.Trail.{TrailState}
+use Rattle.std.proofs.Common.{ℕ, ◌<◌, List, ap, ◌∙◌, refl, arith}
+use Rattle.asp_clauses.specs.declared.trail.Step.{Step}
+use Rattle.asp_clauses.specs.Trail.{TrailState, level_at, decisions}
 use Rattle.asp_search.specs.Meaning.{SameMeaning}
 use Rattle.asp_search.specs.Solver.{AreInRange}
+use Rattle.asp_search.specs.Learned.{AreLearned}
+use Rattle.asp_search.proofs.LearnedClauses.{AreLearned-learned}
+use Rattle.asp_search.proofs.Trails.{level_at-le-decisions}
 use Rattle.asp_search.proofs.Clauses.{SameMeaning-learned}
-use Rattle.asp_search.proofs.Stepping.{IsCursor-back, min-lower, DecidesAssumed-back, AreInRange-push, Stays-kept}
+use Rattle.asp_search.proofs.Stepping.{IsCursor-rewound, DecidesAssumed-back, AreInRange-push, Stays-kept}
 use Rattle.asp_search.proofs.jump.go_back.Goals as goal
 use Rattle.asp_search.proofs.jump.go_back.Goals.{In-Ok}
 
+lower : (target : ℕ) (steps : List Step) (place : ℕ) → target < level_at steps place → target < decisions steps
+lower target steps place below = omega (arith, below, level_at-le-decisions steps place)
+
+pub jump-requires-clause-level : goal.jump-requires-clause-level
+jump-requires-clause-level c = lower c.args.target c.args.solver.now.trail.steps c.args.place c.requires.derives.learned.lower
+
 -- the learned clause adds nothing
-same_meaning : (c : In-Ok) → SameMeaning c.args.solver.now.book.clauses c.add-added.new.self.clauses
+same_meaning : (c : In-Ok) → SameMeaning c.args.solver.now.book.clauses c.add_learned-added.new.self.clauses
 same_meaning c =
     rw (c.in-Ok.ensures.added, c.as_slice.ensures.value)
     (SameMeaning-learned c.args.solver.now.book.clauses c.args.solver.now.learned.items c.requires.derives.learned.follows c.requires.derives.learned.mentions)
 
-ranges : (c : In-Ok) → AreInRange c.args.solver.now.trail.atoms c.add-added.new.self.clauses
+ranges : (c : In-Ok) → AreInRange c.args.solver.now.trail.atoms c.add_learned-added.new.self.clauses
 ranges c =
     rw (c.in-Ok.ensures.added, c.as_slice.ensures.value)
     (AreInRange-push c.args.solver.now.trail.atoms c.args.solver.now.book.clauses c.args.solver.now.learned.items c.requires.derives.learned.clause c.requires.ready.ranges)
+
+learned : (c : In-Ok) → AreLearned c.add_learned-added.new.self.kinds c.add_learned-added.new.self.clauses
+learned c =
+    rw (c.in-Ok.ensures.added, c.in-Ok.ensures.kinds, c.as_slice.ensures.value)
+    (AreLearned-learned c.args.solver.now.book.kinds c.args.solver.now.book.clauses _ c.args.solver.now.learned.items c.requires.derives.learned.follows c.requires.ready.learned)
 
 pub returns-in-Err-jump-clause-stays : goal.returns-in-Err-jump-clause-stays
 returns-in-Err-jump-clause-stays c =
@@ -28,9 +43,10 @@ returns-in-Err-jump-clause-stays c =
           goes = c.in-Err-jump.ensures.goes;
           few = rw same ready.fitted.few;
           codes = rw same ready.fitted.codes;
-          ordered = rw same (c.release.ensures ∙ ready.fitted.ordered);
+          heap_atoms = rw same (c.unwind.ensures ∙ ready.fitted.heap_atoms);
         };
         ranges = rw same (ranges (goal.at.returns-in-Err-jump-clause-stays c).In-Ok);
+        learned = learned (goal.at.returns-in-Err-jump-clause-stays c).In-Ok;
         unmarked = ready.unmarked;
         assumptions = rw same ready.assumptions;
         assumed = rw same ready.assumed;
@@ -55,14 +71,15 @@ returns-in-Ok-jump-clause-stays c =
           goes = c.in-Ok-jump.ensures.goes;
           few = rw placed.atoms ready.fitted.few;
           codes = rw placed.atoms ready.fitted.codes;
-          ordered = rw placed.atoms (c.decay.ensures ∙ (c.release.ensures ∙ ready.fitted.ordered));
+          heap_atoms = rw placed.atoms (c.decay.ensures ∙ (c.unwind.ensures ∙ ready.fitted.heap_atoms));
         };
         ranges = rw placed.atoms (ranges (goal.at.returns-in-Ok-jump-clause-stays c).In-Ok);
+        learned = learned (goal.at.returns-in-Ok-jump-clause-stays c).In-Ok;
         unmarked = ready.unmarked;
         assumptions = rw placed.atoms ready.assumptions;
         assumed = rw placed.steps (DecidesAssumed-back old.assumed.items old.trail.steps _ c.args.target refl ready.assumed);
-        cursor = rw (placed.steps, c.min-solver.ensures)
-            (IsCursor-back old.assumed.items old.trail.steps _ old.cursor c.args.target _ refl c.requires.derives.learned.lower (min-lower old.cursor c.args.target) ready.cursor);
+        cursor = rw placed.steps
+            (IsCursor-rewound old.assumed.items old.trail.steps _ old.cursor old.held c.args.target _ _ refl (lower c.args.target old.trail.steps c.args.place c.requires.derives.learned.lower) c.rewind.ensures ready.cursor);
       };
       meaning = same_meaning (goal.at.returns-in-Ok-jump-clause-stays c).In-Ok;
       atoms = placed.atoms;
@@ -74,4 +91,4 @@ returns-in-Ok-jump-clause-stays c =
 
 pub returns-in-Err-clause-stays : goal.returns-in-Err-clause-stays
 returns-in-Err-clause-stays c =
-    Stays-kept c.args.solver.now _ c.requires.ready c.in-Err.ensures.unchanged refl refl refl refl c.requires.ready.unmarked refl refl
+    Stays-kept c.args.solver.now _ c.requires.ready c.in-Err.ensures.unchanged refl refl refl refl refl c.requires.ready.unmarked refl refl

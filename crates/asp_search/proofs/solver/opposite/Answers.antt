@@ -1,4 +1,4 @@
-use Rattle.std.proofs.Common.{sym, arith}
+use Rattle.std.proofs.Common.{sym}
 use Rattle.asp_clauses.proofs.LiteralLemmas.{negated_even, negated_odd}
 use Rattle.asp_search.proofs.solver.opposite.Goals as goal
 

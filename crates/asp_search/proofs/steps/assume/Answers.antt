@@ -1,7 +1,9 @@
-use Rattle.std.proofs.Common.{◌<◌, ◌*◌, ℕ, None, ◌∙◌, sym, subst, refl, inl, arith}
+use Rattle.std.proofs.Common.{◌<◌, ◌+◌, ◌*◌, ◌++◌, ◌∷◌, [], ℕ, List, None, ap, ◌∙◌, sym, subst, refl, inl, arith}
 use Rattle.std.specs.List.{Contains}
 use Rattle.std.proofs.lemmas.Bool.{false≢true}
-use Rattle.asp_clauses.specs.Trail.{IsPlaced}
+use Rattle.asp_clauses.specs.declared.trail.Step.{Step}
+use Rattle.asp_clauses.specs.Trail.{IsPlaced, decisions}
+use Rattle.asp_search.specs.Solver.{IsCursor}
 use Rattle.asp_clauses.proofs.LiteralLemmas.{negated-lt}
 use Rattle.asp_clauses.proofs.ReorderLemmas.{Contains-at}
 use Rattle.asp_search.proofs.Stepping.{Stays-kept, Stays-decided, DecidesAssumed-decided}
@@ -25,9 +27,10 @@ returns-in-Ok-clause-stays c =
     let has : Contains old.assumed.items c.args.literal = subst (λ (l : ℕ). Contains old.assumed.items l) c.requires.next.is (Contains-at old.assumed.items old.cursor c.requires.next.within) in
     Stays-decided old _ (record { literal = c.args.literal; reason = None }) c.requires.ready c.in-Ok.ensures.placed (c.in-Ok.ensures.goes old.book c.requires.ready.fitted.goes) refl refl refl refl
     (DecidesAssumed-decided old.assumed.items old.trail.steps (record { literal = c.args.literal; reason = None }) (inl has) c.requires.ready.assumed)
-    (IsCursor-decided old.assumed.items old.trail.steps (record { literal = c.args.literal; reason = None }) old.cursor c.requires.next.within c.requires.next.is c.requires.ready.cursor)
+    (subst (λ (held : ℕ). IsCursor old.assumed.items (old.trail.steps ++ record { literal = c.args.literal; reason = None } ∷ []) (old.cursor + 1) held) (sym (c.decisions-solver.ensures ∙ ap (λ (steps : List Step). decisions steps) c.in-Ok.ensures.placed.steps))
+    (IsCursor-decided old.assumed.items old.trail.steps (record { literal = c.args.literal; reason = None }) old.cursor old.held c.requires.next.within c.requires.next.is c.requires.ready.cursor))
     (omega (arith, c.saturating_add-solver.ensures))
 
 pub returns-in-Err-clause-stays : goal.returns-in-Err-clause-stays
 returns-in-Err-clause-stays c =
-    Stays-kept c.args.solver.now _ c.requires.ready refl c.in-Err.ensures.unchanged refl refl refl c.requires.ready.unmarked refl refl
+    Stays-kept c.args.solver.now _ c.requires.ready refl c.in-Err.ensures.unchanged refl refl refl refl c.requires.ready.unmarked refl refl

@@ -15,10 +15,11 @@ loop-solver-preserved c =
       ready = record {
         fitted = i.ready.fitted;
         ranges = i.ready.ranges;
+        learned = i.ready.learned;
         unmarked = i.ready.unmarked;
         assumptions = i.ready.assumptions;
         assumed = i.ready.assumed;
-        cursor = IsCursor-more s.assumed.items s.trail.steps s.cursor inside placed i.ready.cursor;
+        cursor = rw c.decisions-solver.ensures (IsCursor-more s.assumed.items s.trail.steps s.cursor s.held inside placed i.ready.cursor);
       };
       book = i.book;
       trail = i.trail;
@@ -29,4 +30,4 @@ loop-solver-preserved c =
 pub returns-clause-all : goal.returns-clause-all
 returns-clause-all c = λ _.
     let s = c.loop-solver.solver in
-    all_true-past s.assumed.items s.trail.steps s.cursor (omega (arith, c.loop-solver-test.false, c.len.ensures, s.assumed.ok.0)) c.loop-solver.invariant.ready.cursor
+    all_true-past s.assumed.items s.trail.steps s.cursor s.held (omega (arith, c.loop-solver-test.false, c.len.ensures, s.assumed.ok.0)) c.loop-solver.invariant.ready.cursor

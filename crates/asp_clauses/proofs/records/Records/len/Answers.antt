@@ -1,8 +1,6 @@
-use Rattle.std.proofs.Common.{length, ap, arith}
-use Rattle.asp_clauses.proofs.RowsLemmas.{length-rows_of}
+use Rattle.std.proofs.Common.{◌∙◌, length, ap, sym}
+use Rattle.asp_clauses.proofs.RecordLemmas.{length-records_of}
 use Rattle.asp_clauses.proofs.records.Records.len.Goals as goal
 
 pub returns-clause-value : goal.returns-clause-value
-returns-clause-value c =
-    let i = c.self.inside in let v = ap length c.self.view_is in
-    omega (arith, length-rows_of i.words.items i.starts.items, v, i.starts.ok)
+returns-clause-value c = let i = c.self.inside in c.len.ensures.value ∙ sym (length-records_of i.tops.items i.rows c.self.invariant.as_many) ∙ ap length c.self.view_is

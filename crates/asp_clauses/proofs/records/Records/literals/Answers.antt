@@ -1,40 +1,21 @@
-use Rattle.std.proofs.Common.{◌≡◌, ℕ, ◌+◌, ◌-◌, List, [], get_or, take, drop, ◌∙◌, ap, arith}
-use Rattle.asp_clauses.proofs.RowsLemmas.{row_facts, word_within, first_read, part_read, start_read}
+use Rattle.std.proofs.Common.{◌∙◌, arith}
+use Rattle.asp_clauses.proofs.RecordLemmas.{parts, literals_is, size_is}
 use Rattle.asp_clauses.proofs.records.Records.literals.Goals as goal
 
-pub index-requires : goal.index-requires
-index-requires c =
+pub literals-requires-clause-size : goal.literals-requires-clause-size
+literals-requires-clause-size c =
     let i = c.self.inside in
-    let f = row_facts i.words.items i.starts.items c.args.self.now c.self.invariant c.self.view_is c.args.clause c.requires.clause in
-    omega (arith, f.numbered, i.starts.ok)
+    let p = parts i.tops.items i.rows c.args.self.now c.args.clause c.self.invariant c.self.view_is c.requires.clause in
+    let s = size_is i.tops.items i.rows c.args.self.now c.args.clause p in let n = p.size in let r = c.requires.size in
+    omega (arith, s, n, r)
 
-pub index-requires-2 : goal.index-requires-2
-index-requires-2 c =
+pub literals-requires-clause-clause : goal.literals-requires-clause-clause
+literals-requires-clause-clause c =
     let i = c.self.inside in
-    let f = row_facts i.words.items i.starts.items c.args.self.now c.self.invariant c.self.view_is c.args.clause c.requires.clause in
-    let size = c.requires.size in
-    let w = word_within i.words.items i.starts.items c.args.self.now c.args.clause c.index.result.now 0 f c.index.ensures (omega (arith, size)) in
-    omega (arith, w.0, i.words.ok)
-
-pub slice_bounds-result-end : goal.slice_bounds-result-end
-slice_bounds-result-end c =
-    let i = c.self.inside in
-    let rows = c.args.self.now in
-    let f = row_facts i.words.items i.starts.items rows c.self.invariant c.self.view_is c.args.clause c.requires.clause in
-    let size = c.requires.size in
-    let s = start_read i.words.items i.starts.items rows c.args.clause c.index.result.now f c.index.ensures in
-    let n = first_read i.words.items i.starts.items rows c.self.invariant c.args.clause c.index.result.now c.index-2.result.now f c.index.ensures (omega (arith, size)) c.index-2.ensures in
-    omega (arith, s, n, size, f.within, c.deref.ensures.len, i.words.ok)
+    (parts i.tops.items i.rows c.args.self.now c.args.clause c.self.invariant c.self.view_is c.requires.clause).in_rows
 
 pub returns : goal.returns
 returns c =
     let i = c.self.inside in
-    let rows = c.args.self.now in
-    let f = row_facts i.words.items i.starts.items rows c.self.invariant c.self.view_is c.args.clause c.requires.clause in
-    let size = c.requires.size in
-    let s = c.index.result.now in
-    let n = first_read i.words.items i.starts.items rows c.self.invariant c.args.clause s c.index-2.result.now f c.index.ensures (omega (arith, size)) c.index-2.ensures in
-    let m : (s + 3 + c.index-2.result.now) - (s + 3) ≡ get_or (get_or rows c.args.clause []) 0 0 = omega (arith, n) in
-    ap (λ (x : List ℕ). take ((s + 3 + c.index-2.result.now) - (s + 3)) (drop (s + 3) x)) c.deref.ensures.value
-    ∙ ap (λ (x : ℕ). take x (drop (s + 3) i.words.items)) m
-    ∙ part_read i.words.items i.starts.items rows c.self.invariant c.args.clause s 3 (get_or (get_or rows c.args.clause []) 0 0) f c.index.ensures size
+    let p = parts i.tops.items i.rows c.args.self.now c.args.clause c.self.invariant c.self.view_is c.requires.clause in
+    c.literals.ensures ∙ literals_is i.tops.items i.rows c.args.self.now c.args.clause p

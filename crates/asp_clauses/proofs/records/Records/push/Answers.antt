@@ -1,18 +1,15 @@
-use Rattle.std.proofs.Common.{◌≡◌, ℕ, ◌+◌, length, List, [], ◌∷◌, ◌++◌, ap, ◌∙◌, arith, drop, min, length-append, length-drop}
-use Rattle.std.proofs.lemmas.Grind.{common_steps}
-use Rattle.asp_clauses.specs.Rows.{rows_of}
-use Rattle.asp_clauses.specs.Records.{record_of}
-use Rattle.asp_clauses.proofs.RowsLemmas.{length-rows_of, rows_of-push}
+use Rattle.std.proofs.Common.{◌∙◌, ap, sym, length}
+use Rattle.asp_clauses.proofs.RecordLemmas.{pushed_records, length-records_of}
 use Rattle.asp_clauses.proofs.records.Records.push.Goals as goal
 
-pub returns-then-is_ok-2-clause-ok : goal.returns-then-is_ok-2-clause-ok
-returns-then-is_ok-2-clause-ok c =
+pub invariant_of-self-in-Ok : goal.invariant_of-self-in-Ok
+invariant_of-self-in-Ok c =
     let i = c.self.inside in
-    let rec = record_of c.args.origin c.args.literals.now in
-    let words : c.write_record-written.new.words.items ≡ i.words.items ++ rec = grind (arith, common_steps) in
-    let pushed : c.push.new.self.items ≡ i.starts.items ++ (c.len-start.result + 3 + c.max.result) ∷ [] = grind (arith, common_steps) in
-    let sized : c.len-start.result + 3 + c.max.result ≡ length i.words.items + length rec = omega (arith, length-append c.args.literals.now (drop (min (length c.args.literals.now) 2) (c.args.origin ∷ c.args.origin ∷ [])), length-drop (min (length c.args.literals.now) 2) (c.args.origin ∷ c.args.origin ∷ []), c.max.ensures, c.len-start.ensures, i.words.ok) in (
-      omega (arith, length-rows_of i.words.items i.starts.items, ap length c.self.view_is, c.len-number.ensures, i.starts.ok),
-      ap (λ (x : List ℕ). rows_of x c.push.new.self.items) words ∙ ap (rows_of (i.words.items ++ rec)) (pushed ∙ ap (λ (n : ℕ). i.starts.items ++ n ∷ []) sized)
-          ∙ rows_of-push i.words.items i.starts.items rec c.self.invariant ∙ ap (λ (x : List (List ℕ)). x ++ rec ∷ []) c.self.view_is,
+    (pushed_records i.tops.items c.push.new.self.items i.rows c.push-2.new.self c.args.self.now c.args.origin c.args.literals.now c.new_top.result c.self.invariant c.self.view_is c.new_top.ensures c.in_ok-push.ensures.items c.in-Ok.ensures.ok.1).0
+
+pub returns-in-Ok-clause-ok : goal.returns-in-Ok-clause-ok
+returns-in-Ok-clause-ok c =
+    let i = c.self.inside in (
+      c.in-Ok.ensures.ok.0 ∙ sym (length-records_of i.tops.items i.rows c.self.invariant.as_many) ∙ ap length c.self.view_is,
+      (pushed_records i.tops.items c.push.new.self.items i.rows c.push-2.new.self c.args.self.now c.args.origin c.args.literals.now c.new_top.result c.self.invariant c.self.view_is c.new_top.ensures c.in_ok-push.ensures.items c.in-Ok.ensures.ok.1).1,
     )

@@ -26,5 +26,5 @@ returns c =
       atoms = refl;
       watched = refl;
       heads = ap (λ (n : ℕ). set w.heads.items n c.args.clause) c.cell-literal.ensures;
-      records = c.set_cell.ensures ∙ ap (λ (n : ℕ). set w.records c.args.clause (set row (1 + c.args.side) n)) (read ∙ ap (λ (n : ℕ). get_or w.heads.items n 0) c.cell-literal.ensures);
+      records = c.set_link.ensures ∙ ap (λ (n : ℕ). set w.records c.args.clause (set row (1 + c.args.side) n)) (read ∙ ap (λ (n : ℕ). get_or w.heads.items n 0) c.cell-literal.ensures);
     }

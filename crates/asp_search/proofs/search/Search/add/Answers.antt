@@ -11,4 +11,5 @@ invariant_of-self c =
       budget = c.self.invariant.budget ∙ ap (λ (t : TrailState). t.budget) (sym keeps.trail);
       found = λ e. IsSatisfied-kept c.self.inside.solver c.add_clause.new.solver c.in_err-add_clause.ensures.unchanged keeps.trail keeps.assumed (c.self.invariant.found e);
       spent = λ e. rw keeps.trail (c.self.invariant.spent e);
+      asked = c.self.invariant.asked;
     }

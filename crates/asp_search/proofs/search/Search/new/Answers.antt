@@ -1,5 +1,6 @@
-use Rattle.std.proofs.Common.{◌∙◌, sym, [], arith}
+use Rattle.std.proofs.Common.{◌∙◌, sym, [], refl, arith}
 use Rattle.asp_search.specs.Solver.{AreAssumptions, AreInRange, DecidesAssumed, IsCursor}
+use Rattle.asp_search.proofs.LearnedClauses.{AreLearned-none}
 use Rattle.asp_search.proofs.search.Search.new.Goals as goal
 
 pub invariant_of-result : goal.invariant_of-result
@@ -11,7 +12,7 @@ invariant_of-result c =
       distinct = λ i j below within. absurd (omega (arith, within));
     } in
     let decides : DecidesAssumed [] [] = λ place within is. absurd (omega (arith, within)) in
-    let cursor : IsCursor [] [] 0 = record {
+    let cursor : IsCursor [] [] 0 0 = record {
       within = omega arith;
       placed = λ i within. absurd (omega (arith, within));
       decided = λ within. omega arith;
@@ -21,16 +22,18 @@ invariant_of-result c =
         fitted = record {
           goes = c.in_ok-trail.ensures.goes c.in_ok-book.book c.in_ok-book.ensures.atoms;
           few = rw c.in_ok-trail.ensures.atoms c.requires;
-          codes = rw c.in_ok-trail.ensures.atoms c.in_ok-marks.ensures.codes;
-          ordered = c.in_ok-order.ensures ∙ sym c.in_ok-trail.ensures.atoms;
+          codes = rw c.in_ok-trail.ensures.atoms c.in_ok-seen.ensures.codes;
+          heap_atoms = c.in_ok-heap.ensures ∙ sym c.in_ok-trail.ensures.atoms;
         };
         ranges = rw c.in_ok-book.ensures.empty ranges;
-        unmarked = c.in_ok-marks.ensures.none;
-        assumptions = rw c.new-6.ensures.items assumptions;
-        assumed = rw (c.new-6.ensures.items, c.in_ok-trail.ensures.empty) decides;
-        cursor = rw (c.new-6.ensures.items, c.in_ok-trail.ensures.empty) cursor;
+        learned = rw (c.in_ok-book.ensures.empty, c.in_ok-book.ensures.no_kinds) AreLearned-none;
+        unmarked = c.in_ok-seen.ensures.none;
+        assumptions = rw c.new-8.ensures.items assumptions;
+        assumed = rw (c.new-8.ensures.items, c.in_ok-trail.ensures.empty) decides;
+        cursor = rw (c.new-8.ensures.items, c.in_ok-trail.ensures.empty) cursor;
       };
       budget = sym c.in_ok-trail.ensures.budget;
       found = λ e. cc;
       spent = λ e. cc;
+      asked = λ new begun. absurd (new refl);
     }

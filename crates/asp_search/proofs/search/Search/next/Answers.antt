@@ -1,4 +1,4 @@
-use Rattle.std.proofs.Common.{subst}
+use Rattle.std.proofs.Common.{Some, subst}
 use Rattle.asp_search.specs.declared.search.Search.TheInside.{Inside}
 use Rattle.asp_search.specs.State.{SearchState, IsFound}
 use Rattle.asp_search.proofs.Finding.{IsFound-view}
@@ -10,5 +10,5 @@ returns-in-Found-clause-found c = λ _.
 
 pub returns-in-New-clause-found : goal.returns-in-New-clause-found
 returns-in-New-clause-found c = λ e.
-    let after : Inside = record { solver = c.run-outcome.new.solver; budget = c.self.inside.budget; stage = c.stage_after-self-inside.result } in
+    let after : Inside = record { solver = c.run-outcome.new.solver; budget = c.self.inside.budget; ordered = Some c.args.ordered; stage = c.stage_after-self-inside.result } in
     IsFound-view after (c.run-outcome.ensures.found e)

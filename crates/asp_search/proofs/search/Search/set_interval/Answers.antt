@@ -1,0 +1,13 @@
+use Rattle.asp_search.proofs.search.Search.set_interval.Goals as goal
+
+pub invariant_of-self : goal.invariant_of-self
+invariant_of-self c =
+    let i = c.self.invariant in
+    let r = i.ready in
+    record {
+      ready = record { fitted = r.fitted; ranges = r.ranges; learned = r.learned; unmarked = r.unmarked; assumptions = r.assumptions; assumed = r.assumed; cursor = r.cursor };
+      budget = i.budget;
+      found = λ e. let f = i.found e in record { total = f.total; clauses = f.clauses; assumed = f.assumed };
+      spent = i.spent;
+      asked = i.asked;
+    }
