@@ -1,39 +1,36 @@
 -- What the answers to a question for moves say.
-use Rattle.std.specs.Prelude.{◌≡◌, ℕ, ◌+◌, ◌-◌, ◌^◌, ◌<◌, ◌≤◌, min, Bool, true, ◌||◌, ◌==◌, List, [], length, map, IsTrue, Some, Result, Ok, Err}
-use Rattle.std.specs.List.{list_all, list_any, slice_get}
+use Rattle.std.specs.Prelude.{◌≡◌, ℕ, ◌+◌, ◌-◌, ◌^◌, ◌<◌, ◌≤◌, min, Bool, ◌||◌, ◌==◌, List, [], length, map, IsTrue, Result, Ok, Err}
+use Rattle.std.specs.List.{list_all, list_any}
 use Rattle.asp_bits.specs.Places.{true_places}
 use Rattle.asp_defs.specs.declared.faults.Give.{Give}
 use Rattle.asp_defs.specs.declared.faults.Kind.{Kind}
 use Rattle.asp_defs.specs.declared.faults.Kind.TheVariants.{Search, Minimal, Store}
 use Rattle.asp_defs.specs.declared.faults.Unknown.{Unknown}
-use Rattle.asp_defs.specs.declared.ground.GroundRule.{GroundRule}
 use Rattle.asp_defs.specs.declared.ground.Lit.{Lit}
 use Rattle.asp_defs.specs.Lists.{IsIn}
 use Rattle.asp_defs.specs.Interpretations.{holds}
-use Rattle.asp_defs.specs.Games.{base, rules_of, rule_atoms, is_subset}
-use Rattle.asp_defs.specs.Entries.{cube_holds, held_moves}
+use Rattle.asp_defs.specs.Games.{base, is_subset}
+use Rattle.asp_defs.specs.Entries.{cube_holds, stands_at, held_moves}
 use Rattle.asp_defs.specs.Unknowns.{enough_placements}
 use Rattle.asp_game.specs.declared.step.Step.{Step}
 use Rattle.asp_game.specs.declared.step.Step.TheVariants.{Found, Core}
 use Rattle.asp_game.specs.State.{MovesState, Last, FoundMove, FoundCore, Gave}
 use Rattle.asp_game.specs.Questions.{open_moves}
 
--- a move that was asked for, as truth values of all atoms, and the first of all where they are ordered
+-- a move that was asked for, as truth values of all atoms
 pub record IsFound (s : MovesState) (set : List Bool) : Type 0 where
   pub places : length set ≡ length s.game.bases.atoms
   pub open_move : IsIn (true_places set) (open_moves s s.outer)
-  pub least : s.ordered ≡ true → slice_get (open_moves s s.outer) 0 ≡ Some (true_places set)
 
--- whether an atom stands in one of the rules or in one of the cubes
-abbrev pub is_named : List GroundRule → List (List Lit) → ℕ → Bool
-is_named rules cubes a =
-    list_any (λ r. holds (rule_atoms r) a) rules || list_any (λ cube. list_any (λ l. l.atom == a) cube) cubes
+-- whether an atom stands in a rule or bound of the level or in one of the blocked cubes
+abbrev pub is_named : MovesState → ℕ → Bool
+is_named s a = stands_at s.game s.level a || list_any (λ cube. list_any (λ l. l.atom == a) cube) s.blocked
 
 -- a part of the outer move, its atoms ascending, so that no move that is asked for comes after any outer move that has it
 pub record IsCore (s : MovesState) (core : List Lit) : Type 0 where
   pub atoms : IsTrue (is_subset (map (λ l. l.atom) core) (base s.game (s.level - 1)))
   pub part : IsTrue (cube_holds core s.outer)
-  pub named : IsTrue (list_all (λ l. is_named (rules_of s.game s.level) s.blocked l.atom) core)
+  pub named : IsTrue (list_all (λ l. is_named s l.atom) core)
   pub refuted : (M : List ℕ) → IsIn M (held_moves s.game s.level core) → open_moves s M ≡ []
 
 -- a count rose, or stands at the end of 64 bits

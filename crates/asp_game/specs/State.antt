@@ -14,8 +14,9 @@ pub data Last : Type 0 where
   FoundCore : Last
   Gave : Give → Last
 
--- `outer` is the outer move, `region` and `blocked` are lists of literals; `searches` and `checks` are how often the search for
--- candidates and the check of their minimality have spent the budget, as counts of 64 bits that stand still at their end
+-- `outer` is the outer move, `region` and `blocked` are lists of literals; `ordered` is whether the least move is wanted first;
+-- `searches` and `checks` are how often the search for candidates and the check of their minimality have spent the budget, as
+-- counts of 64 bits that stand still at their end
 pub record MovesState : Type 0 where
   pub game : Game
   pub level : ℕ

@@ -1,5 +1,5 @@
 //! The trait of the moves of a level.
-ghost use Rattle.std.specs.Prelude.{◌≡◌, ◌≢◌, List, Bool, false, length, IsTrue, Ok, Err, OnOk, OnErr};
+ghost use Rattle.std.specs.Prelude.{◌≡◌, ◌≢◌, List, Bool, length, IsTrue, Ok, Err, OnOk, OnErr};
 ghost use Rattle.asp_bits.specs.Places.{true_places};
 ghost use Rattle.asp_defs.specs.declared.faults.Give.{Give};
 ghost use Rattle.asp_defs.specs.declared.faults.Unknown.{Unknown};
@@ -28,8 +28,9 @@ pub trait Moves {
     /// often a budget was spent.
     ghost state: { Self → MovesState };
 
-    /// Puts a question: the moves after an outer move that have the literals of a region, and where `ordered` the least
-    /// of them first, which nobody may ask for yet. `NoMemory`: memory was refused, and the question before stands.
+    /// Puts a question: the moves after an outer move that have the literals of a region. `ordered` says that the least move is
+    /// wanted first; the question keeps it, and nothing is promised of the order yet. `NoMemory`: memory was refused, and the
+    /// question before stands.
     fn begin(
         &mut self,
         alloc: Global,
@@ -40,13 +41,13 @@ pub trait Moves {
         requires places { length outer.now ≡ length (state self.old).game.bases.atoms }
         requires outer { IsTrue (is_outer (state self.old).game (state self.old).level (true_places outer.now)) }
         requires region { IsTrue (is_region (state self.old).game (state self.old).level region.now) }
-        requires order { ordered ≡ false }
         ensures begun { OnOk result
             (state self.new ≡ asked (state self.old) (true_places outer.now) region.now ordered) }
         ensures unchanged { OnErr result (state self.new ≡ state self.old) };
 
-    /// The next answer. `Spent`: a search of the level placed as many literals as the budget allows. `NoMemory`: memory was
-    /// refused. After both the same is answered until the next question.
+    /// The next answer: a move that is asked for, of an ordered question too any of them, or that there is none. `Spent`: a
+    /// search of the level placed as many literals as the budget allows. `NoMemory`: memory was refused. After both the same
+    /// is answered until the next question.
     fn next(&mut self, alloc: Global) -> Result<Step, Give>
         requires { (state self.old).last ≢ Unasked }
         ensures goes_on { GoesOn (state self.old) (state self.new) }

@@ -115,6 +115,11 @@ pub some_member : (U : List ℕ) → is_empty U ≡ false → (a : ℕ) × IsIn 
 some_member [] h = absurd (cc)
 some_member (a ∷ U) h = (a, inl refl)
 
+-- a list with a member isn't empty
+pub not_empty : (U : List ℕ) (a : ℕ) → IsIn a U → is_empty U ≡ false
+not_empty [] a i = absurd i
+not_empty (b ∷ U) a i = refl
+
 -- an interpretation with an unfounded set that has no free atom is no answer set
 pub refuted : (G : List GroundRule) (F I U : List ℕ) → is_empty U ≡ false → ((a : ℕ) → holds U a ≡ true → holds I a ≡ true) → is_apart U F ≡ true → is_unfounded G I U ≡ true → is_answer_set (with_choices G F) I ≡ false
 refuted G F I U some inside apart unfounded =

@@ -1,3 +1,4 @@
+pub mod Lone
 pub mod Choosing
 pub mod Leaving
 pub mod Places

@@ -1,7 +1,8 @@
 -- Places that are written, their numbers, and the places of atoms that leave.
-use Rattle.std.proofs.Common.{ℕ, zero, suc, ◌+◌, ◌<◌, ◌≤◌, ◌≡◌, ◌≢◌, refl, sym, ◌∙◌, ap, subst, inl, inr, Bool, true, false, not, ◌&&◌, ◌||◌, cond, eqb, nat_lt, List, [], ◌∷◌, ◌++◌, length, get_or, set, take, map, Option, Some, None, arith}
+use Rattle.std.proofs.Common.{ℕ, zero, suc, ◌+◌, ◌<◌, ◌≤◌, ◌≡◌, ◌≢◌, refl, sym, ◌∙◌, ap, subst, inl, inr, Bool, true, false, not, ◌&&◌, ◌||◌, cond, eqb, nat_eq, List, [], ◌∷◌, ◌++◌, length, get_or, set, take, map, Option, Some, None, arith}
+use Rattle.std.specs.Bool.{beq}
 use Rattle.std.specs.List.{filter, slice_get}
-use Rattle.std.proofs.lemmas.Bool.{cases_eq, cases_lt, eq-eqb, ne_eqb, lt-ltb, or_left}
+use Rattle.std.proofs.lemmas.Bool.{cases_eq, cases_lt, eq-eqb, ne_eqb, or_left}
 use Rattle.std.proofs.lemmas.List.{length-set, get_or-set_same, get_or-set_other, get_or_past, length-append, map-append, length-map, length-take, take_more}
 use Rattle.std.proofs.lemmas.Option.{get_or_from_slice_get}
 use Rattle.std.proofs.Math.ListN.{get_or-map}
@@ -9,21 +10,41 @@ use Rattle.asp_bits.specs.Places.{true_from, true_places}
 use Rattle.asp_reduct.proofs.Truths.{holds-true_places, holds-read, get_or-member}
 use Rattle.asp_defs.specs.Lists.{IsIn}
 use Rattle.asp_defs.specs.Interpretations.{holds}
-use Rattle.asp_defs.specs.Games.{ascends}
-use Rattle.asp_defs.proofs.Lists.{and_true}
 use Rattle.asp_minimal.specs.Choices.{bound_atoms}
-use Rattle.asp_minimal.specs.Numbers.{written, numbers_from, number_at, AreNumbers, leaves, leaving_places}
+use Rattle.asp_minimal.specs.Numbers.{written, has_value, numbers_from, number_at, AreNumbers, leaves, leaving_places}
 
 -- ---- members
 
 pub read_member : {A : Type 0} (xs : List A) (i : ℕ) (x : A) → i < length xs → x ≡ get_or xs i x → IsIn x xs
 read_member {A} xs i x h e = subst (λ (y : A). IsIn y xs) (sym e) (get_or-member xs i x h)
 
--- whether a place is true in one interpretation and not in another, from what was read there
-pub outside-read : (values part : List Bool) (a : ℕ) (x y : Bool) → slice_get values a ≡ Some x → slice_get part a ≡ Some y
-    → (x && not y) ≡ (holds (true_places values) a && not (holds (true_places part) a))
-outside-read values part a x y hx hy =
-    ap (λ t. t && not y) (sym (holds-read values a x hx)) ∙ ap (λ t. holds (true_places values) a && not t) (sym (holds-read part a y hy))
+-- whether a place is true in one interpretation and has a value in another, from what was read there
+pub with-read : (values part : List Bool) (a : ℕ) (value x y : Bool) → slice_get values a ≡ Some x → slice_get part a ≡ Some y
+    → (x && has_value value y) ≡ (holds (true_places values) a && has_value value (holds (true_places part) a))
+with-read values part a value x y hx hy =
+    ap (λ t. t && has_value value y) (sym (holds-read values a x hx))
+    ∙ ap (λ t. holds (true_places values) a && has_value value t) (sym (holds-read part a y hy))
+
+pub beq-value : (b value : Bool) → beq b value ≡ has_value value b
+beq-value true true = refl
+beq-value true false = refl
+beq-value false true = refl
+beq-value false false = refl
+
+pub value_is : (value b : Bool) → has_value value b ≡ true → b ≡ value
+value_is true b h = h
+value_is false true h = absurd (cc)
+value_is false false h = refl
+
+-- whether a place is true and another than a given one, from what was read there
+pub other-read : (values : List Bool) (a b : ℕ) (x : Bool) → slice_get values b ≡ Some x → x ≡ true
+    → not (nat_eq a b) ≡ (holds (true_places values) b && not (holds (a ∷ []) b))
+other-read values a b x read is =
+    ap not (alone (nat_eq a b)) ∙ sym (ap (λ t. t && not (holds (a ∷ []) b)) (holds-read values b x read ∙ is))
+  where
+    alone : (t : Bool) → t ≡ t || false
+    alone true = refl
+    alone false = refl
 
 -- ---- places that are written
 

@@ -7,13 +7,13 @@ use Rattle.std.proofs.lemmas.List.Folds.{list_any_at, list_any-append, list_all-
 use Rattle.asp_defs.specs.declared.ground.GroundRule.{GroundRule}
 use Rattle.asp_defs.specs.Lists.{IsIn}
 use Rattle.asp_search.specs.Meaning.{truth, Satisfies, SatisfiesAll, SameMeaning}
-use Rattle.asp_search.specs.Marks.{AreCodes}
+use Rattle.asp_search.specs.Seen.{AreCodes}
 use Rattle.asp_search.specs.Cores.{IsCore}
 use Rattle.asp_search.specs.Found.{assignment_of}
-use Rattle.asp_search.specs.State.{SearchState, Adds, IsFound}
+use Rattle.asp_search.specs.State.{SearchState, Adds, IsFound, stage_after_add}
 use Rattle.asp_search.proofs.Truth.{truth-even, truth-odd, Contains-tail}
 use Rattle.asp_minimal.specs.Numbers.{number_at, AreNumbers, leaves, remains}
-use Rattle.asp_minimal.specs.Demands.{literals_of, literals_at, clause_of, binds, allows, Demands}
+use Rattle.asp_minimal.specs.Demands.{literals_of, literals_at, clause_of, binds, allows, HasBegun, Demands}
 
 -- ---- one clause
 
@@ -130,6 +130,11 @@ demands_from_adds old new clause test says adds = record {
   met = λ v s. sym (says v) ∙ satisfied_at v clause (adds.clauses.satisfied v s);
   atoms = ap (λ (s : SearchState). s.atoms) adds.rest;
   budget = ap (λ (s : SearchState). s.budget) adds.rest;
+  begun = λ h. record {
+    stage = ap (λ (s : SearchState). s.stage) adds.rest ∙ ap stage_after_add h.stage;
+    assumed = ap (λ (s : SearchState). s.assumed) adds.rest ∙ h.assumed;
+    ordered = ap (λ (s : SearchState). s.ordered) adds.rest ∙ h.ordered;
+  };
 }
 
 -- one demand after the other
@@ -143,6 +148,7 @@ demands_both old middle new one two both is first second = record {
   met = λ v s. is v ∙ and_from (one v) (two v) (first.met v (second.back v s)) (second.met v s);
   atoms = second.atoms ∙ first.atoms;
   budget = second.budget ∙ first.budget;
+  begun = λ h. second.begun (first.begun h);
 }
 
 -- the demands of one more member of a list
@@ -160,15 +166,16 @@ pub demands_next : (old middle new : SearchState) (rules : List GroundRule) (tes
 demands_next old middle new rules test i r within is first second =
     demands_more old middle new rules test i r within first (subst (λ (q : GroundRule). Demands middle new (λ v. test v q)) is second)
 
--- a search that began anew has the demands that it had
-pub demands_begun : (old middle new : SearchState) (test : (ℕ → Bool) → Bool) → new.clauses ≡ middle.clauses → new.atoms ≡ middle.atoms → new.budget ≡ middle.budget
-    → Demands old middle test → Demands old new test
-demands_begun old middle new test clauses atoms budget demands = record {
-  forth = λ v s t. subst (λ (cs : List (List ℕ)). SatisfiesAll v cs) (sym clauses) (demands.forth v s t);
-  back = λ v s. demands.back v (subst (λ (cs : List (List ℕ)). SatisfiesAll v cs) clauses s);
-  met = λ v s. demands.met v (subst (λ (cs : List (List ℕ)). SatisfiesAll v cs) clauses s);
-  atoms = atoms ∙ demands.atoms;
-  budget = budget ∙ demands.budget;
+-- what is demanded of a search that has begun with these clauses is demanded of the one before
+pub demands_since : (old begun new : SearchState) (test : (ℕ → Bool) → Bool) → begun.clauses ≡ old.clauses → begun.atoms ≡ old.atoms → begun.budget ≡ old.budget → HasBegun begun
+    → Demands begun new test → Demands old new test
+demands_since old begun new test clauses atoms budget has_begun demands = record {
+  forth = λ v s t. demands.forth v (subst (λ (cs : List (List ℕ)). SatisfiesAll v cs) (sym clauses) s) t;
+  back = λ v s. subst (λ (cs : List (List ℕ)). SatisfiesAll v cs) clauses (demands.back v s);
+  met = demands.met;
+  atoms = demands.atoms ∙ atoms;
+  budget = demands.budget ∙ budget;
+  begun = λ h. demands.begun has_begun;
 }
 
 -- a rule that could support what leaves is allowed where its clause is satisfied

@@ -5,7 +5,6 @@ use Rattle.std.proofs.lemmas.Bool.{or_left, or_right}
 use Rattle.asp_bits.specs.Places.{true_places}
 use Rattle.asp_reduct.proofs.Truths.{holds-true_places, ascends-true_from}
 use Rattle.asp_defs.specs.declared.ground.GroundRule.{GroundRule}
-use Rattle.asp_defs.specs.Lists.{IsIn, is_empty}
 use Rattle.asp_defs.specs.Interpretations.{holds}
 use Rattle.asp_defs.specs.Truth.{is_model}
 use Rattle.asp_defs.specs.AnswerSets.{is_answer_set}
@@ -20,7 +19,7 @@ use Rattle.asp_search.specs.Cores.{IsCore}
 use Rattle.asp_search.specs.Found.{assignment_of}
 use Rattle.asp_search.specs.State.{SearchState, IsFound}
 use Rattle.asp_minimal.specs.Demands.{allows, Demands}
-use Rattle.asp_minimal.proofs.Choosing.{false_from, refuted, model-with_choices, unfounded-of_rules, apart-of_choices}
+use Rattle.asp_minimal.proofs.Choosing.{false_from, not_empty, refuted, model-with_choices, unfounded-of_rules, apart-of_choices}
 use Rattle.asp_minimal.proofs.Leaving.{Splits, no_support, allowed}
 use Rattle.asp_minimal.proofs.Stating.{found_meets, core_refutes}
 use Rattle.asp_minimal.proofs.Places.{bound-at, numbers_from-at, numbers_from-some, numbers_from-none, holds-leaving}
@@ -69,11 +68,6 @@ leaving_bound part v a h = elim (true_or_false (holds (true_places part) a)) [
   | inl k ↦ k
   | inr n ↦ absurd (true_is_not_false _ (sym (holds-leaving v (numbers_from 0 part) a) ∙ h) (((splits part v).outside a n).0))
 ]
-
--- a list with a member isn't empty
-not_empty : (U : List ℕ) (a : ℕ) → IsIn a U → is_empty U ≡ false
-not_empty [] a i = absurd i
-not_empty (b ∷ U) a i = refl
 
 -- some number leaves exactly where some atom does
 number_index : (v : ℕ → Bool) (numbers : List (Option ℕ)) → list_any (leaves v) numbers ≡ true → (a : ℕ) × (leaves v (number_at numbers a) ≡ true)

@@ -42,15 +42,18 @@ allows I K numbers v r =
     not (binds I K r)
     || (list_any (λ a. leaves v (number_at numbers a)) r.pos || list_any (λ a. remains v (number_at numbers a)) r.head)
 
--- the clauses mean what the old ones and a test of assignments mean together, over the same atoms and with the same budget
+-- a search without assumptions that has begun
+pub record HasBegun (search : SearchState) : Type 0 where
+  pub stage : search.stage ≡ Begun
+  pub assumed : search.assumed ≡ []
+  pub ordered : search.ordered ≡ None
+
+-- the clauses mean what the old ones and a test of assignments mean together, over the same atoms and with the same budget; a
+-- search that had begun still has
 pub record Demands (old new : SearchState) (test : (ℕ → Bool) → Bool) : Type 0 where
   pub forth : (v : ℕ → Bool) → SatisfiesAll v old.clauses → test v ≡ true → SatisfiesAll v new.clauses
   pub back : (v : ℕ → Bool) → SatisfiesAll v new.clauses → SatisfiesAll v old.clauses
   pub met : (v : ℕ → Bool) → SatisfiesAll v new.clauses → test v ≡ true
   pub atoms : new.atoms ≡ old.atoms
   pub budget : new.budget ≡ old.budget
-
--- a search without assumptions that has begun
-pub record HasBegun (search : SearchState) : Type 0 where
-  pub stage : search.stage ≡ Begun
-  pub assumed : search.assumed ≡ []
+  pub begun : HasBegun old → HasBegun new

@@ -1,3 +1,4 @@
+pub mod Alone
 pub mod Choices
 pub mod Demands
 pub mod Nogoods

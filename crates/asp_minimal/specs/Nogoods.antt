@@ -1,8 +1,9 @@
 -- Clauses that an unfounded set gives. All definitions are transparent.
-use Rattle.std.specs.Prelude.{ℕ, ◌≡◌, true, false, Bool, not, ◌&&◌, ◌||◌, List, ◌++◌}
+use Rattle.std.specs.Prelude.{ℕ, ◌≡◌, true, false, Bool, not, ◌&&◌, ◌||◌, List, ◌∷◌, ◌++◌}
 use Rattle.std.specs.List.{list_any, list_all}
 use Rattle.asp_defs.specs.declared.ground.GroundRule.{GroundRule}
 use Rattle.asp_defs.specs.declared.ground.Lit.{Lit}
+use Rattle.asp_defs.specs.Lists.{IsIn}
 use Rattle.asp_defs.specs.Interpretations.{holds}
 use Rattle.asp_defs.specs.Truth.{body_true}
 use Rattle.asp_defs.specs.AnswerSets.{is_answer_set}
@@ -34,22 +35,6 @@ pub record IsNogood (G : List GroundRule) (I U : List ℕ) (clause : List Lit) :
   pub true_there : (F N : List ℕ) → is_apart U F ≡ true → is_answer_set (with_choices G F) N ≡ true → is_true N clause ≡ true
   pub atoms : list_all (λ l. holds U l.atom || stands_in G l.atom) clause ≡ true
 
--- further literals, false in the interpretation and of atoms of a rule, that are false together only where the rule
--- doesn't support the set
-pub record Blocks (I U : List ℕ) (r : GroundRule) (old new : List Lit) : Type 0 where
-  pub more : List Lit
-  pub grown : new ≡ old ++ more
-  pub false_here : is_false I more ≡ true
-  pub atoms : list_all (λ l. holds (rule_atoms r) l.atom) more ≡ true
-  pub blocked : (N : List ℕ) → is_false N more ≡ true → supports N U r ≡ false
-
--- literals, false in the interpretation, that are false together only where the set is true and the rules don't support it
-pub record BlocksAll (G rules : List GroundRule) (I U : List ℕ) (clause : List Lit) : Type 0 where
-  pub false_here : is_false I clause ≡ true
-  pub atoms : list_all (λ l. holds U l.atom || stands_in G l.atom) clause ≡ true
-  pub members : (N : List ℕ) → is_false N clause ≡ true → list_all (holds N) U ≡ true
-  pub blocked : (N : List ℕ) → is_false N clause ≡ true → is_unfounded rules N U ≡ true
-
 -- a literal that is false in an interpretation, of an atom of the rule, and wherever it is false the rule doesn't support the set
 pub record IsReason (I U : List ℕ) (r : GroundRule) (l : Lit) : Type 0 where
   pub false_here : lit_true I l ≡ false
@@ -60,3 +45,44 @@ pub record IsReason (I U : List ℕ) (r : GroundRule) (l : Lit) : Type 0 where
 pub record IsOpen (I U : List ℕ) (r : GroundRule) : Type 0 where
   pub body : body_true I r ≡ true
   pub closed : list_all (λ a. not (holds I a && not (holds U a))) r.head ≡ true
+
+-- whether each literal of the body whose atom is an outer one is true
+abbrev pub is_outer_true : List ℕ → List ℕ → GroundRule → Bool
+is_outer_true I O r = list_all (λ a. not (holds O a && not (holds I a))) r.pos && list_all (λ a. not (holds O a && holds I a)) r.neg
+
+-- a false literal of the body whose atom is an outer one
+pub record IsOuterReason (I O : List ℕ) (r : GroundRule) (l : Lit) : Type 0 where
+  pub outer : holds O l.atom ≡ true
+  pub reason : (U : List ℕ) → IsReason I U r l
+
+-- a reason of an outer atom, where a false literal of the body has one
+pub record IsChosen (I U O : List ℕ) (r : GroundRule) (l : Lit) : Type 0 where
+  pub reason : IsReason I U r l
+  pub outer_first : holds O l.atom ≡ false → is_outer_true I O r ≡ true
+
+-- why one of the rules doesn't support the set
+pub record IsReasonOf (G : List GroundRule) (I U O : List ℕ) (l : Lit) : Type 0 where
+  pub rule : GroundRule
+  pub member : IsIn rule G
+  pub chosen : IsChosen I U O rule l
+
+-- a nogood that denies one atom: each other literal is the reason why a rule doesn't support the set
+pub record IsAtomNogood (G : List GroundRule) (I U O : List ℕ) (a : ℕ) (clause : List Lit) : Type 0 where
+  pub nogood : IsNogood G I U clause
+  pub reasons : List Lit
+  pub is : clause ≡ denied a ∷ reasons
+  pub because : (l : Lit) → IsIn l reasons → IsReasonOf G I U O l
+
+-- further literals, each a reason, that are false together only where the rule doesn't support the set
+pub record Blocks (I U O : List ℕ) (r : GroundRule) (old new : List Lit) : Type 0 where
+  pub more : List Lit
+  pub grown : new ≡ old ++ more
+  pub because : (l : Lit) → IsIn l more → IsChosen I U O r l
+  pub blocked : (N : List ℕ) → is_false N more ≡ true → supports N U r ≡ false
+
+-- reasons behind some literals, that are false together only where the rules don't support the set
+pub record BlocksAll (G rules : List GroundRule) (I U O : List ℕ) (start clause : List Lit) : Type 0 where
+  pub reasons : List Lit
+  pub is : clause ≡ start ++ reasons
+  pub because : (l : Lit) → IsIn l reasons → IsReasonOf G I U O l
+  pub blocked : (N : List ℕ) → is_false N reasons ≡ true → is_unfounded rules N U ≡ true

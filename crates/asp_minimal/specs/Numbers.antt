@@ -7,6 +7,11 @@ use Rattle.asp_bits.specs.Places.{true_places}
 abbrev pub written : Bool → List Bool → List ℕ → List Bool
 written value values places = fold (λ so_far place. slice_set so_far place value) values places
 
+-- whether a truth value is a given one
+abbrev pub has_value : Bool → Bool → Bool
+has_value true b = b
+has_value false b = not b
+
 -- the numbers of the true places, counted from a first number on, and none for a false place
 abbrev pub numbers_from : ℕ → List Bool → List (Option ℕ)
 numbers_from n [] = []

@@ -3,11 +3,13 @@
 ghost use Rattle.std.specs.Prelude.{◌≡◌, ◌<◌, ◌≤◌, ◌++◌, length, IsTrue, IfOk, OnOk};
 ghost use Rattle.std.specs.List.{list_any, list_all};
 ghost use Rattle.asp_bits.specs.Places.{true_places};
+ghost use Rattle.asp_defs.specs.declared.faults.Which.TheVariants as which;
+ghost use Rattle.asp_defs.specs.Limits.{limit};
 ghost use Rattle.asp_reduct.specs.Bounds.{are_below, is_rule_below};
 ghost use Rattle.asp_minimal.specs.Numbers.{AreNumbers, leaves};
 ghost use Rattle.asp_minimal.specs.Demands.{literal_of, literals_at, clause_of, is_closed, binds as is_binding, allows, Demands};
 
-use crate::atoms::first_outside;
+use crate::atoms::first_with;
 use crate::numbers::number_of;
 use asp_bits::Bits;
 use asp_defs::{GroundRule, NoMemory};
@@ -17,7 +19,7 @@ use std::alloc::Global;
 
 /// The literal of a number, or its negation.
 fn literal(number: u32, positive: bool) -> u32
-    requires { number < 262144 }
+    requires { number < limit which.Atoms }
     ensures { result ≡ literal_of positive number }
 {
     if positive { 2 * number + 1 } else { 2 * number }
@@ -31,7 +33,7 @@ fn push_literals(
     positive: bool,
 ) -> Result<(), NoMemory>
     requires below { IsTrue (are_below (length numbers.now) atoms.now) }
-    requires small { AreNumbers 262144 numbers.now }
+    requires small { AreNumbers (limit which.Atoms) numbers.now }
     ensures { OnOk result (clause.new.items ≡ clause.old.items ++ literals_at positive numbers.now atoms.now) }
 {
     for atom in atoms {
@@ -48,7 +50,7 @@ fn is_within(atoms: &[u32], set: &Bits, part: &Bits) -> bool
     requires same_length { length part.now ≡ length set.now }
     ensures { result ≡ is_closed (true_places set.now) (true_places part.now) atoms.now }
 {
-    first_outside(atoms, set, part).is_none()
+    first_with(atoms, set, part, false).is_none()
 }
 
 /// Whether the rule could support what leaves: its body is true, an atom of its head is, and all such atoms of its head are
@@ -65,7 +67,7 @@ fn binds(rule: &GroundRule, set: &Bits, part: &Bits) -> bool
 /// The clause of a rule: an atom of the positive body leaves, or one of the head stays.
 fn clause(alloc: Global, rule: &GroundRule, numbers: &[Option<u32>]) -> Result<Vec<u32>, NoMemory>
     requires below { IsTrue (is_rule_below (length numbers.now) rule.now) }
-    requires small { AreNumbers 262144 numbers.now }
+    requires small { AreNumbers (limit which.Atoms) numbers.now }
     ensures { IfOk result (λ clause. clause.items ≡ clause_of numbers.now rule.now) }
 {
     let mut clause = Vec::new(alloc);
@@ -87,7 +89,7 @@ fn add_rule(
     requires same_length { length part.now ≡ length set.now }
     requires numbered { length numbers.now ≡ length set.now }
     requires numbers { AreNumbers search.old.atoms numbers.now }
-    requires small { search.old.atoms ≤ 262144 }
+    requires small { search.old.atoms ≤ limit which.Atoms }
     ensures { OnOk result (Demands search.old search.new
         (λ v. allows (true_places set.now) (true_places part.now) numbers.now v rule.now)) }
 {
@@ -111,7 +113,7 @@ pub fn add_rules(
     requires same_length { length part.now ≡ length set.now }
     requires numbered { length numbers.now ≡ length set.now }
     requires numbers { AreNumbers search.old.atoms numbers.now }
-    requires small { search.old.atoms ≤ 262144 }
+    requires small { search.old.atoms ≤ limit which.Atoms }
     ensures { OnOk result (Demands search.old search.new
         (λ v. list_all (allows (true_places set.now) (true_places part.now) numbers.now v) rules.now)) }
 {
@@ -128,7 +130,7 @@ pub fn add_leaving(
     numbers: &[Option<u32>],
 ) -> Result<(), NoMemory>
     requires numbers { AreNumbers search.old.atoms numbers.now }
-    requires small { search.old.atoms ≤ 262144 }
+    requires small { search.old.atoms ≤ limit which.Atoms }
     ensures { OnOk result (Demands search.old search.new (λ v. list_any (leaves v) numbers.now)) }
 {
     let mut clause = Vec::new(alloc);

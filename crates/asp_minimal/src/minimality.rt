@@ -1,17 +1,20 @@
 //! Whether an interpretation is an answer set of rules with free choices.
 
-ghost use Rattle.std.specs.Prelude.{◌≡◌, ℕ, ◌<◌, ◌≤◌, ◌^◌, ◌&&◌, true, false, List, length, IsTrue, IfOk, OnOk, Ok, Err};
+ghost use Rattle.std.specs.Prelude.{◌≡◌, ℕ, ◌<◌, ◌≤◌, ◌^◌, ◌&&◌, true, false, List, [], ◌∷◌, length, IsTrue, IfOk, OnOk, Ok, Err};
 ghost use Rattle.std.specs.List.{list_any, list_all};
 ghost use Rattle.asp_bits.specs.Places.{true_places};
 ghost use Rattle.asp_defs.specs.declared.faults.Unknown.{Unknown};
 ghost use Rattle.asp_defs.specs.AnswerSets.{is_answer_set};
 ghost use Rattle.asp_defs.specs.Truth.{is_model};
+ghost use Rattle.asp_defs.specs.declared.faults.Which.TheVariants as which;
+ghost use Rattle.asp_defs.specs.Limits.{limit};
 ghost use Rattle.asp_reduct.specs.Bounds.{is_rule_below};
 ghost use Rattle.asp_search.specs.State.{IsFresh};
 ghost use Rattle.asp_minimal.specs.Choices.{with_choices, bound_atoms, Refutes};
 ghost use Rattle.asp_minimal.specs.Demands.{allows, Demands, HasBegun};
 ghost use Rattle.asp_minimal.specs.Numbers.{written, AreNumbers, leaves};
 
+use crate::alone::unsupported;
 use crate::clauses::{add_leaving, add_rules};
 use crate::numbers::{leaving, numbered, write};
 use asp_bits::Bits;
@@ -37,7 +40,7 @@ pub fn bound(alloc: Global, set: &Bits, free: &[u32]) -> Result<Bits, NoMemory>
     Ok(part)
 }
 
-/// Adds all clauses and begins the search.
+/// Begins the search and adds all clauses.
 fn prepare(
     alloc: Global,
     search: &mut Search,
@@ -50,21 +53,22 @@ fn prepare(
     requires same_length { length part.now ≡ length set.now }
     requires numbered { length numbers.now ≡ length set.now }
     requires numbers { AreNumbers search.old.atoms numbers.now }
-    requires small { search.old.atoms ≤ 262144 }
+    requires small { search.old.atoms ≤ limit which.Atoms }
     ensures demands { OnOk result (Demands search.old search.new
         (λ v. list_any (leaves v) numbers.now
         && list_all (allows (true_places set.now) (true_places part.now) numbers.now v) rules.now)) }
     ensures begun { OnOk result (HasBegun search.new) }
 {
+    search.begin(alloc, &[])?;
     add_leaving(alloc, search, numbers)?;
-    add_rules(alloc, search, rules, set, part, numbers)?;
-    search.begin(alloc, &[])
+    add_rules(alloc, search, rules, set, part, numbers)
 }
 
 /// Whether `set` is an answer set of the rules with a free choice on each atom of `free`.
 ///
 /// `search` is a new one with an atom for each true atom of the set that isn't in `free`; it is given the clauses of the
-/// smaller models. The time is linear in the lengths of the rules, of `free` and of the set, beside the search's own.
+/// smaller models. Where an atom alone is an unfounded set, the answer is one such atom, and the search isn't asked. The time is
+/// linear in the lengths of the rules, of `free` and of the set, beside the search's own.
 ///
 /// `Spent`: the search has placed as many literals as its budget allows; the answer names `level` and that budget.
 /// `NoMemory`: memory was refused.
@@ -84,6 +88,8 @@ pub fn minimal(
     ensures no { (u : List ℕ) → result ≡ Ok (Minimality.No u)
         → is_answer_set (with_choices rules.now free.now) (true_places set.now) ≡ false }
     ensures unfounded { (u : List ℕ) → result ≡ Ok (Minimality.No u) → Refutes rules.now free.now (true_places set.now) u }
+    ensures alone { (u : List ℕ) → (a : ℕ) → result ≡ Ok (Minimality.No u)
+        → Refutes rules.now free.now (true_places set.now) (a ∷ []) → length u ≡ 1 }
 
     // The count stands for the cause, and is below 3 to the power of the atoms.
     ensures spent { (unknown : Unknown) → result ≡ Err (Give.Spent unknown)
@@ -92,6 +98,9 @@ pub fn minimal(
         × (search.old.budget < 3 ^ length (bound_atoms free.now (true_places set.now))) }
 {
     let part = bound(alloc, set, free)?;
+    if let Some(atom) = unsupported(alloc, rules, set, &part)? {
+        return Ok(Minimality::No(List::from_slice(alloc, &[atom])?));
+    }
     let numbers = numbered(alloc, &part)?;
     prepare(alloc, search, rules, set, &part, numbers.as_slice())?;
     match search.next(alloc, false) {

@@ -5,4 +5,5 @@ use Rattle.asp_minimal.proofs.blocking.add_reason.Goals as goal
 
 pub returns-then-not-concerns : goal.returns-then-not-concerns
 returns-then-not-concerns c =
-    blocks_nothing (true_places c.args.set.now) (true_places c.args.part.now) c.args.rule.now c.args.clause.now.items (sym c.concerns.ensures ∙ c.if-not-concerns.true)
+    blocks_nothing (true_places c.args.set.now) (true_places c.args.part.now) (true_places c.args.outer.now) c.args.rule.now c.args.clause.now.items
+    (sym c.concerns.ensures ∙ c.if-not-concerns.true)

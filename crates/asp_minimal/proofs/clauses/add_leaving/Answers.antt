@@ -2,7 +2,7 @@ use Rattle.std.proofs.Common.{◌≡◌, ◌*◌, ℕ, false, List, sym, ap, ◌
 use Rattle.std.specs.List.{list_any, flat_map}
 use Rattle.std.proofs.lemmas.List.{take_all}
 use Rattle.asp_search.specs.Meaning.{truth}
-use Rattle.asp_search.specs.Marks.{AreCodes}
+use Rattle.asp_search.specs.Seen.{AreCodes}
 use Rattle.asp_minimal.specs.Numbers.{leaves}
 use Rattle.asp_minimal.specs.Demands.{literals_of}
 use Rattle.asp_minimal.proofs.Stating.{leaving-codes, any-leaving, demands_from_adds, on_ok}

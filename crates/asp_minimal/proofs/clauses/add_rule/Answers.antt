@@ -1,5 +1,5 @@
 use Rattle.std.proofs.Common.{◌≡◌, ◌*◌, ℕ, List, sym, ◌∙◌, subst}
-use Rattle.asp_search.specs.Marks.{AreCodes}
+use Rattle.asp_search.specs.Seen.{AreCodes}
 use Rattle.asp_bits.specs.Places.{true_places}
 use Rattle.asp_minimal.specs.Demands.{clause_of, allows}
 use Rattle.asp_minimal.proofs.Stating.{clause_of-codes, any-bound, demands_from_adds, on_ok}

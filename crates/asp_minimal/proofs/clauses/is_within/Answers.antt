@@ -4,4 +4,4 @@ use Rattle.asp_minimal.proofs.clauses.is_within.Goals as goal
 
 pub returns : goal.returns
 returns c =
-    none_outside (true_places c.args.set.now) (true_places c.args.part.now) c.args.atoms.now c.first_outside.result c.is_none.result c.first_outside.ensures c.is_none.ensures
+    none_outside (true_places c.args.set.now) (true_places c.args.part.now) c.args.atoms.now c.first_with.result c.is_none.result c.first_with.ensures c.is_none.ensures

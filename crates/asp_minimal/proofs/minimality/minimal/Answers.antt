@@ -1,12 +1,16 @@
-use Rattle.std.proofs.Common.{◌≡◌, ℕ, false, List, length, Ok, sym, ap, ◌∙◌, subst}
+use Rattle.std.proofs.Common.{◌≡◌, ℕ, false, List, [], ◌∷◌, length, Ok, sym, ap, ◌∙◌, subst}
 use Rattle.asp_bits.specs.Places.{true_places}
 use Rattle.asp_minimal.specs.Choices.{Refutes}
 use Rattle.asp_search.specs.Found.{assignment_of}
 use Rattle.asp_minimal.specs.Numbers.{numbers_from, leaving_places}
 use Rattle.asp_minimal.proofs.Places.{length-written, length-numbers_from, numbers_fit}
+use Rattle.asp_minimal.proofs.Lone.{part_inside, alone_refutes, none_alone}
 use Rattle.asp_minimal.proofs.Verdicts.{refutes_when_found, not_answer_set, answer_set_when_core}
 use Rattle.asp_minimal.proofs.minimality.minimal.Goals as goal
-use Rattle.asp_minimal.proofs.minimality.minimal.Goals.{After-as_slice, After-drop-part-inside-in-Ok-Found}
+use Rattle.asp_minimal.proofs.minimality.minimal.Goals.{After-as_slice, After-drop-part-inside-in-Some, After-drop-part-inside-in-Ok-Found}
+
+pub unsupported-requires-clause-inside : goal.unsupported-requires-clause-inside
+unsupported-requires-clause-inside c = part_inside c.args.set.now c.in_ok-part.part c.args.free.now c.in_ok-part.ensures
 
 numbers_are : (c : After-as_slice) → c.as_slice.result.now ≡ numbers_from 0 c.in_ok-part.part
 numbers_are c = c.as_slice.ensures.value ∙ c.in_ok-numbers.ensures
@@ -63,3 +67,22 @@ returns-in-Ok-Core-clause-yes c = λ e.
     c.in_ok-part.ensures (c.as_slice.ensures.value ∙ c.in_ok-numbers.ensures) c.requires.model c.requires.fresh.clauses c.in_ok-prepare.ensures.begun.assumed
     c.in_ok-prepare.ensures.demands
     (c.in-Ok-Core.ensures.core c.in-Ok-Core.field-0-0 (ap (λ o. Ok o) c.in-Ok-Core.field-0-is))
+
+-- the atom that is answered refutes the set alone
+refutes_alone : (c : After-drop-part-inside-in-Some) → Refutes c.args.rules.now c.args.free.now (true_places c.args.set.now) (c.in-Some.atom ∷ [])
+refutes_alone c =
+    alone_refutes c.args.rules.now c.args.free.now c.args.set.now c.in_ok-part.part c.in-Some.atom c.in_ok-part.ensures
+    (rw c.in-Some.is at c.in_ok-atom.ensures)
+
+pub returns-in-Some-clause-no : goal.returns-in-Some-clause-no
+returns-in-Some-clause-no c = λ u e.
+    not_answer_set c.args.rules.now c.args.free.now (true_places c.args.set.now) (c.in-Some.atom ∷ []) (refutes_alone c)
+
+pub returns-in-Some-clause-unfounded : goal.returns-in-Some-clause-unfounded
+returns-in-Some-clause-unfounded c = λ u e.
+    let same : c.in_ok-from_slice.field-0 ≡ u = cc in
+    subst (λ (W : List ℕ). Refutes c.args.rules.now c.args.free.now (true_places c.args.set.now) W) (sym c.in_ok-from_slice.ensures ∙ same) (refutes_alone c)
+
+pub returns-in-Ok-Found-clause-alone : goal.returns-in-Ok-Found-clause-alone
+returns-in-Ok-Found-clause-alone c = λ u a e h.
+    absurd (none_alone c.args.rules.now c.args.free.now c.args.set.now c.in_ok-part.part a c.in_ok-part.ensures (rw c.in_default.is at c.in_ok-atom.ensures) h)

@@ -1,9 +1,0 @@
-use Rattle.std.proofs.Common.{◌≡◌, true, not, ◌&&◌, take}
-use Rattle.std.specs.List.{list_all}
-use Rattle.asp_bits.specs.Places.{true_places}
-use Rattle.asp_defs.specs.Interpretations.{holds}
-use Rattle.asp_minimal.proofs.atoms.first_outside.Given as goal
-
--- each true atom so far is in the part
-abbrev pub invariant-loop-atom : goal.invariant-loop-atom
-invariant-loop-atom l = list_all (λ a. not (holds (true_places l.set) a && not (holds (true_places l.part) a))) (take l.atom-index l.atoms) ≡ true
