@@ -1,4 +1,4 @@
--- Which line a refused text has.
+-- The line of a refused text is that of its first refusal, whichever of the reader, the checks and the limits refuses it.
 use Rattle.std.proofs.Common.{◌<◌, ◌≤◌, ℕ, true, List, length, refl, sym, ap, subst, arith}
 use Rattle.std.specs.Prelude.{◌≡◌, ◌≢◌, Option, Some, None, is_none, IsTrue}
 use Rattle.asp_check.specs.declared.checks.CheckFault.{CheckFault}
@@ -11,6 +11,8 @@ use Rattle.asp_defs.specs.declared.faults.TextFault.TheVariants as text
 use Rattle.asp_defs.specs.declared.syntax.Program.{Program}
 use Rattle.asp_defs.specs.Checks.{CheckRefusal, UnsafeRule, HeadedRule, PastLimit, check_refusal, is_checked, IsCheckedText}
 use Rattle.asp_defs.specs.Sizes.{game_too_large, IsAccepted}
+use Rattle.asp_defs.specs.declared.faults.Which.TheVariants.{Bytes}
+use Rattle.asp_defs.specs.Limits.{limit}
 use Rattle.asp_defs.specs.Grammar.{IsText}
 use Rattle.asp_defs.specs.TextRefusals.{IsRefused}
 use Rattle.asp_defs.specs.Runs.{NoText, FailedCheck, LargeGame}
@@ -18,7 +20,7 @@ use Rattle.asp_defs.proofs.TextRefutations.{clash}
 use Rattle.asp_top.specs.Replies.{refusal_of_text, refusal_of_check, refusal_of_size, IsRefusedSo}
 use Rattle.asp_ground.specs.Faults.{IsGameRefusal}
 
-module _ (bytes : List ℕ) (short : 1048576 < length bytes → ⊥) where
+module _ (bytes : List ℕ) (short : limit Bytes < length bytes → ⊥) where
   -- a fault of the reader
   pub text_refused : (fault : TextFault) → (fault ≢ text.NoMemory → IsRefused bytes fault)
       → IsRefusedSo bytes (refusal_of_text fault)
@@ -30,7 +32,6 @@ module _ (bytes : List ℕ) (short : 1048576 < length bytes → ⊥) where
   text_refused (text.UnknownDirective place) h = NoText (text.UnknownDirective place) short (h (λ e. cc)) refl
   text_refused (text.BeforeLevel place) h = NoText (text.BeforeLevel place) short (h (λ e. cc)) refl
   text_refused (text.AfterConstraint place) h = NoText (text.AfterConstraint place) short (h (λ e. cc)) refl
-  text_refused (text.NotYet place form) h = NoText (text.NotYet place form) short (h (λ e. cc)) refl
   text_refused (text.Unexpected place) h = NoText (text.Unexpected place) short (h (λ e. cc)) refl
   text_refused text.NoMemory h = tt
 
@@ -55,8 +56,8 @@ module _ (bytes : List ℕ) (p : Program) (text : IsCheckedText bytes p) where
   -- a fault for the size of the game
   pub size_refused : (fault : SizeFault) → IsGameRefusal p fault → IsRefusedSo bytes (refusal_of_size fault)
   size_refused (size.TooLarge which count) h =
-      let short : length bytes ≤ 1048576 = text.short in
-      LargeGame p which count (λ past. let long : 1048576 < length bytes = past in omega arith) text.text
+      let short : length bytes ≤ limit Bytes = text.short in
+      LargeGame p which count (λ past. let long : limit Bytes < length bytes = past in omega arith) text.text
       (no_refusal p text.checked) h refl
   size_refused size.NoMemory h = tt
 

@@ -1,10 +1,12 @@
--- The bytes that were taken of a source, and what is right of them.
+-- The bytes that are taken of a source that tells its bytes: what is right to say of them is right to say of all its bytes.
 use Rattle.std.proofs.Common.{◌≡◌, ◌<◌, ◌≤◌, ◌+◌, ℕ, List, length, take, drop, take_all, length-take, ap, ◌∙◌, subst, inl, inr, arith}
 use Rattle.std.specs.Prelude.{Option, Some, None, min}
 use Rattle.std.proofs.lemmas.Bool.{cases_lt}
 use Rattle.asp_defs.specs.declared.syntax.Program.{Program}
 use Rattle.asp_defs.specs.Sizes.{IsAccepted}
-use Rattle.asp_defs.specs.Runs.{TooLong, NoText, FailedCheck, LargeGame}
+use Rattle.asp_defs.specs.declared.faults.Which.TheVariants.{Bytes}
+use Rattle.asp_defs.specs.Limits.{limit}
+use Rattle.asp_defs.specs.Runs.{most_read, TooLong, NoText, FailedCheck, LargeGame}
 use Rattle.asp_io.specs.Moved.{TakesFirst}
 use Rattle.asp_top.specs.declared.words.Command.{Command}
 use Rattle.asp_top.specs.declared.answer.Answer.{Answer}
@@ -34,38 +36,38 @@ rest_left before now most taken bytes h told =
     go (Some rest) k = ap Some k.1
 
 -- a byte more than the limit on bytes is asked for
-pub taken_of_text : (limit : ℕ) (before now : Option (List ℕ)) (taken : List ℕ)
-    → limit ≡ 1048576 → TakesFirst before now (limit + 1) taken → TakesFirst before now 1048577 taken
-taken_of_text limit before now taken same h = subst (λ (n : ℕ). TakesFirst before now (n + 1) taken) same h
+pub taken_of_text : (allowed : ℕ) (before now : Option (List ℕ)) (taken : List ℕ)
+    → allowed ≡ limit Bytes → TakesFirst before now (allowed + 1) taken → TakesFirst before now most_read taken
+taken_of_text allowed before now taken same h = subst (λ (n : ℕ). TakesFirst before now (n + 1) taken) same h
 
 -- what was taken of bytes, where it may be more than a text has
-module _ (bytes taken : List ℕ) (first : taken ≡ take 1048577 bytes) where
-  taken_length : length taken ≡ min 1048577 (length bytes)
-  taken_length = ap length first ∙ length-take 1048577 bytes
+module _ (bytes taken : List ℕ) (first : taken ≡ take most_read bytes) where
+  taken_length : length taken ≡ min most_read (length bytes)
+  taken_length = ap length first ∙ length-take most_read bytes
 
   -- no more bytes than a text has are all bytes
-  all_taken : length taken ≤ 1048576 → taken ≡ bytes
+  all_taken : length taken ≤ limit Bytes → taken ≡ bytes
   all_taken short =
       let is = taken_length in
-      let within : length bytes ≤ 1048577 = omega arith in
-      first ∙ take_all 1048577 bytes within
+      let within : length bytes ≤ most_read = omega arith in
+      first ∙ take_all most_read bytes within
 
-  all_unless : (1048576 < length taken → ⊥) → taken ≡ bytes
-  all_unless short = elim (cases_lt 1048576 (length taken)) [
+  all_unless : (limit Bytes < length taken → ⊥) → taken ≡ bytes
+  all_unless short = elim (cases_lt (limit Bytes) (length taken)) [
     | inl past ↦ absurd (short past)
     | inr within ↦ all_taken within
   ]
 
   accepted_whole : (p : Program) → IsAccepted taken p → IsAccepted bytes p
   accepted_whole p text =
-      let short : length taken ≤ 1048576 = text.short in
+      let short : length taken ≤ limit Bytes = text.short in
       subst (λ bs. IsAccepted bs p) (all_taken short) text
 
   refused_whole : (output : List ℕ) → IsRefusedWith taken output → IsRefusedWith bytes output
   refused_whole output (TooLong long is) =
-      let past : 1048576 < length taken = long in
+      let past : limit Bytes < length taken = long in
       let same = taken_length in
-      let more : 1048576 < length bytes = omega arith in
+      let more : limit Bytes < length bytes = omega arith in
       TooLong more is
   refused_whole output (NoText fault short refused is) =
       subst (λ bs. IsRefusedWith bs output) (all_unless short) (NoText fault short refused is)

@@ -1,17 +1,18 @@
--- What a run may answer. All definitions are transparent.
-use Rattle.std.specs.Prelude.{◌≡◌, ◌<◌, ◌≤◌, ◌⊎◌, ℕ, Bool, true, false, Ok, Err, List, codes}
+-- What a run may answer: a defined ending of its words and bytes, where these are served today. All definitions are
+-- transparent.
+use Rattle.std.specs.Prelude.{◌≡◌, ◌≢◌, ◌<◌, ◌≤◌, ◌⊎◌, ℕ, Bool, Ok, Err, List, codes}
 use Rattle.asp_defs.specs.declared.syntax.Program.{Program}
 use Rattle.asp_defs.specs.Sizes.{IsAccepted, atom_total}
 use Rattle.asp_defs.specs.Games.{game_of}
 use Rattle.asp_defs.specs.Values.{is_coherent}
-use Rattle.asp_defs.specs.Runs.{TextRefusal, refusal}
-use Rattle.asp_defs.specs.Lines.{fault_line, word_line, coherent_line, incoherent_line}
-use Rattle.asp_defs.specs.Canonical.{program_text}
-use Rattle.asp_top.specs.declared.status.Status.{Status}
-use Rattle.asp_top.specs.declared.status.Status.TheVariants.{Coherent, Incoherent, Unknown, Done, Words, Text, Read, Write, Memory}
-use Rattle.asp_top.specs.declared.words.Command.{Command}
-use Rattle.asp_top.specs.declared.words.Command.TheVariants.{Solve, Check}
-use Rattle.asp_top.specs.Commands.{command_of}
+use Rattle.asp_defs.specs.Runs.{Ending, TextRefusal, word_ending, refusal, IsDefinedEnding}
+use Rattle.asp_defs.specs.Lines.{fault_line}
+use Rattle.asp_defs.specs.Words.{task_of_words}
+use Rattle.asp_top.specs.declared.status.Ended.{Ended}
+use Rattle.asp_top.specs.declared.status.Status.TheVariants.{Unknown}
+use Rattle.asp_top.specs.declared.words.Command.TheVariants.{Solve}
+use Rattle.asp_top.specs.Commands.{command_of, served_task}
+use Rattle.asp_top.specs.Statuses.{code_of}
 
 -- a text is refused with this line, for the first reason that there is
 abbrev pub IsRefusedWith : List ℕ → List ℕ → Type 0
@@ -36,23 +37,26 @@ IsNotYet bytes = (p : Program) × IsAccepted bytes p × (most_atoms_tried < atom
 abbrev pub not_yet_line : List ℕ
 not_yet_line = fault_line (codes "not yet")
 
--- words can be read
-abbrev pub AreRead : List (List ℕ) → Type 0
-AreRead words = (command : Command) × (command_of words ≡ Ok command)
+-- the ending that a run with this output comes to
+abbrev pub ending_of : Ended → List ℕ → Ending
+ending_of ended output = record { code = code_of ended.status; output = output }
 
--- where nothing fails, a run of these words over these bytes may end with this status and this output
-abbrev pub IsAnswer : List (List ℕ) → List ℕ → Status → List ℕ → Type 0
-IsAnswer words bytes Coherent output =
-    (command_of words ≡ Ok Solve) × HasVerdict bytes true × (output ≡ coherent_line)
-IsAnswer words bytes Incoherent output =
-    (command_of words ≡ Ok Solve) × HasVerdict bytes false × (output ≡ incoherent_line)
-IsAnswer words bytes Unknown output = ⊥
-IsAnswer words bytes Done output =
-    (command_of words ≡ Ok Check) × ((p : Program) × IsAccepted bytes p × (output ≡ program_text p))
-IsAnswer words bytes Words output = (place : ℕ) × (command_of words ≡ Err place) × (output ≡ word_line place)
-IsAnswer words bytes Text output =
-    (AreRead words × IsRefusedWith bytes output)
-    ⊎ ((command_of words ≡ Ok Solve) × IsNotYet bytes × (output ≡ not_yet_line))
-IsAnswer words bytes Read output = ⊥
-IsAnswer words bytes Write output = ⊥
-IsAnswer words bytes Memory output = ⊥
+-- what is served today: words that are read, or refused, as the definition has it; no text for `solve` whose program has
+-- too many atoms to try all sets; and no answer that stays open, since no budget is spent
+pub record IsServed (words : List (List ℕ)) (bytes : List ℕ) (ended : Ended) : Type 0 where
+  pub read : task_of_words words ≡ served_task words
+  pub few : command_of words ≡ Ok Solve → (p : Program) → IsAccepted bytes p → atom_total p ≤ most_atoms_tried
+  pub settled : ended.status ≢ Unknown
+
+-- the ending of what isn't served: the first word that isn't read today is refused, though the definition doesn't refuse it,
+-- or an accepted text isn't solved yet
+pub data IsUnserved (words : List (List ℕ)) (bytes : List ℕ) (ending : Ending) : Type 0 where
+  UnreadWord : (place : ℕ) → command_of words ≡ Err place → task_of_words words ≢ Err place → ending ≡ word_ending place
+      → IsUnserved words bytes ending
+  ManyAtoms : command_of words ≡ Ok Solve → IsNotYet bytes → ending ≡ refusal not_yet_line → IsUnserved words bytes ending
+
+-- where nothing fails, a run of these words over these bytes may end so with this output
+abbrev pub IsAnswer : List (List ℕ) → List ℕ → Ended → List ℕ → Type 0
+IsAnswer words bytes ended output =
+    (IsServed words bytes ended × IsDefinedEnding words bytes (ending_of ended output))
+    ⊎ IsUnserved words bytes (ending_of ended output)

@@ -3,20 +3,21 @@ use Rattle.std.specs.Prelude.{◌≡◌, ◌⊎◌, ◌≤◌, ℕ, Option, List
 use Rattle.std.specs.Io.KnownBytes.{Appends}
 use Rattle.asp_io.specs.Causes.{Rose}
 use Rattle.asp_io.specs.Moved.{AppendsPrefix}
+use Rattle.asp_top.specs.declared.status.Ended.{Ended}
 use Rattle.asp_top.specs.declared.status.Status.{Status}
 use Rattle.asp_top.specs.declared.status.Status.TheVariants.{Words, Write}
 use Rattle.asp_defs.specs.Lines.{word_line}
 use Rattle.asp_top.specs.Answers.{IsAnswer}
 
--- the sink grew by what a run of these words over these bytes, which ends with this status, has to say
-abbrev pub SaysAnswer : List (List ℕ) → List ℕ → Status → Option (List ℕ) → Option (List ℕ) → Type 0
-SaysAnswer words bytes status before now =
-    (output : List ℕ) × IsAnswer words bytes status output × Appends before now output
+-- the sink grew by what a run of these words over these bytes, which ends so, has to say
+abbrev pub SaysAnswer : List (List ℕ) → List ℕ → Ended → Option (List ℕ) → Option (List ℕ) → Type 0
+SaysAnswer words bytes ended before now =
+    (output : List ℕ) × IsAnswer words bytes ended output × Appends before now output
 
 -- the sink grew by the beginning of what a run of these words over these bytes has to say
 abbrev pub BeginsAnswer : List (List ℕ) → List ℕ → Option (List ℕ) → Option (List ℕ) → Type 0
 BeginsAnswer words bytes before now =
-    (status : Status) × (output : List ℕ) × IsAnswer words bytes status output × AppendsPrefix before now output
+    (ended : Ended) × (output : List ℕ) × IsAnswer words bytes ended output × AppendsPrefix before now output
 
 -- the sink grew by the line that refuses the word at this place, or it failed and grew by the line's beginning
 abbrev pub RefusesWord : ℕ → Status → Option (List ℕ) → Option (List ℕ) → Type 0

@@ -1,4 +1,4 @@
--- What a run says of a text. All definitions are transparent.
+-- What a run says of a text, by the faults of the crates below and by the command. All definitions are transparent.
 use Rattle.std.specs.Prelude.{◌≡◌, ℕ, true, false, List}
 use Rattle.asp_defs.specs.declared.faults.TextFault.{TextFault}
 use Rattle.asp_defs.specs.declared.faults.TextFault.TheVariants as text
@@ -31,7 +31,6 @@ refusal_of_text text.Unfinished = refusal.Text line.Unfinished
 refusal_of_text (text.UnknownDirective place) = refusal.Text (line.UnknownDirective place)
 refusal_of_text (text.BeforeLevel place) = refusal.Text (line.BeforeLevel place)
 refusal_of_text (text.AfterConstraint place) = refusal.Text (line.AfterConstraint place)
-refusal_of_text (text.NotYet place form) = refusal.Text (line.NotYet place form)
 refusal_of_text (text.Unexpected place) = refusal.Text (line.Unexpected place)
 refusal_of_text text.NoMemory = refusal.NoMemory
 
@@ -45,7 +44,7 @@ abbrev pub refusal_of_size : SizeFault → Refusal
 refusal_of_size (size.TooLarge which count) = refusal.Text (line.TooLarge which count)
 refusal_of_size size.NoMemory = refusal.NoMemory
 
--- bytes are refused so; want of memory says nothing
+-- bytes are refused so; that memory ran out says nothing
 abbrev pub IsRefusedSo : List ℕ → Refusal → Type 0
 IsRefusedSo bytes (refusal.Text line) = IsRefusedWith bytes (line_text line)
 IsRefusedSo bytes refusal.NoMemory = Unit {0}

@@ -1,4 +1,4 @@
--- The size of a program's game, and what is said of its coherence. All definitions are transparent.
+-- An accepted program beside its vocabulary, and what is said of its coherence. All definitions are transparent.
 use Rattle.std.specs.Prelude.{◌≡◌, ◌<◌, ◌≤◌, None}
 use Rattle.asp_defs.specs.declared.syntax.Program.{Program}
 use Rattle.asp_defs.specs.Games.{game_of}

@@ -1,4 +1,4 @@
-//! Whether a text is accepted.
+//! Whether a text is accepted: its length, its tokens and grammar, the checks of its program, and the size of its game.
 ghost use Rattle.std.specs.Prelude.{IfOk, IfErr};
 ghost use Rattle.asp_defs.specs.Checks.{IsCheckedText};
 ghost use Rattle.asp_defs.specs.Sizes.{IsAccepted};

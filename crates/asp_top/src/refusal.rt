@@ -1,4 +1,4 @@
-//! Refusals of texts, made of the faults of the crates below.
+//! Why a text is refused, made of the faults of the reader, the checks and the limits.
 use asp_check::CheckFault;
 use asp_defs::{SizeFault, TextFault};
 use asp_print::Line;
@@ -28,7 +28,6 @@ impl From<TextFault> for Refusal {
             TextFault::UnknownDirective(place) => Refusal::Text(Line::UnknownDirective(place)),
             TextFault::BeforeLevel(place) => Refusal::Text(Line::BeforeLevel(place)),
             TextFault::AfterConstraint(place) => Refusal::Text(Line::AfterConstraint(place)),
-            TextFault::NotYet(place, form) => Refusal::Text(Line::NotYet(place, form)),
             TextFault::Unexpected(place) => Refusal::Text(Line::Unexpected(place)),
             TextFault::NoMemory => Refusal::NoMemory,
         }

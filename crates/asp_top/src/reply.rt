@@ -1,5 +1,6 @@
 //! What a run has to say of the bytes of its source.
 ghost use Rattle.std.specs.Prelude.{◌≡◌, ◌≤◌, ◌+◌, ℕ, List, Some, IfOk, OnOk, IsErrOf, drop};
+ghost use Rattle.asp_defs.specs.Runs.{most_read};
 ghost use Rattle.asp_defs.specs.Sizes.{IsAccepted};
 ghost use Rattle.asp_io.specs.Causes.{Rose};
 ghost use Rattle.asp_top.specs.Replies.{IsRight};
@@ -26,8 +27,9 @@ pub fn answer<S: Source>(
 ) -> Result<Answer, ReadFault>
     ensures right { IfOk result (λ answer. (bytes : List ℕ) → S.left source.old ≡ Some bytes
         → IsRight command bytes answer) }
+    ensures right_of_some { IfOk result (λ answer. (bytes : List ℕ) × IsRight command bytes answer) }
     ensures all_read { OnOk result ((bytes : List ℕ) → S.left source.old ≡ Some bytes
-        → S.left source.new ≡ Some (drop 1048577 bytes)) }
+        → S.left source.new ≡ Some (drop most_read bytes)) }
     ensures later { S.faults source.old ≤ S.faults source.new }
     ensures kept { OnOk result (S.faults source.new ≡ S.faults source.old) }
     ensures failed { IsErrOf result ReadFault.Failed → Rose (S.faults source.old) (S.faults source.new) }

@@ -1,7 +1,9 @@
-//! The run of the program.
-ghost use Rattle.std.specs.Prelude.{◌≡◌, ◌≢◌, ◌≤◌, ◌⊎◌, ℕ, List, Some, None, IsSome, IsTrue, drop, map, string_bytes};
+//! The top call: a whole run of the program.
+ghost use Rattle.std.specs.Prelude.{◌≡◌, ◌≢◌, ◌≤◌, ◌⊎◌, ℕ, List, Some, Ok, IsSome, IsTrue, drop, map, string_bytes};
+ghost use Rattle.asp_defs.specs.Words.{Task};
+ghost use Rattle.asp_defs.specs.Runs.{reads_bytes, most_read};
 ghost use Rattle.asp_io.specs.Causes.{Rose};
-ghost use Rattle.asp_top.specs.Commands.{refused_word};
+ghost use Rattle.asp_top.specs.Commands.{served_task, refused_word};
 ghost use Rattle.asp_top.specs.Outputs.{SaysAnswer, BeginsAnswer, RefusesWord};
 ghost use Rattle.asp_top.specs.Statuses.{is_answered};
 
@@ -14,8 +16,9 @@ use std::alloc::Global;
 
 /// Runs the command that the words are, over the bytes of the source, and writes what there is to say to the sink.
 ///
-/// The words are read before the source is touched, and all output is written at the end. A source that doesn't
-/// tell its bytes is served as any other, but no clause says with what.
+/// The words are read before the source is touched, and all output is written at the end. A source in memory tells
+/// contracts which bytes it has left; standard input tells none, and of such a source the clauses say that there are bytes
+/// of which the answer is a right one.
 pub fn run_single<S: Source, K: Sink>(
     alloc: Global,
     words: &[String],
@@ -24,11 +27,17 @@ pub fn run_single<S: Source, K: Sink>(
 ) -> Ended
     // Unless something fails, all that there is to say is written.
     ensures answer { IsTrue (is_answered result.status) → (bytes : List ℕ) → S.left source.old ≡ Some bytes
-        → SaysAnswer (map string_bytes words.now) bytes result.status (K.taken sink.old) (K.taken sink.new) }
+        → SaysAnswer (map string_bytes words.now) bytes result (K.taken sink.old) (K.taken sink.new) }
 
-    // Words that can't be read are refused, whatever the source is, and no others are.
+    // Whether or not the source tells its bytes, there are some of which that holds.
+    ensures answer_to_some { IsTrue (is_answered result.status) → (bytes : List ℕ)
+        × SaysAnswer (map string_bytes words.now) bytes result (K.taken sink.old) (K.taken sink.new) }
+
+    // Words that can't be read are refused, whatever the source is, and no others are. Out of memory is free here, but what
+    // is served today reads words without any.
     ensures words_refused { (place : ℕ) → refused_word (map string_bytes words.now) ≡ Some place
-        → RefusesWord place result.status (K.taken sink.old) (K.taken sink.new) }
+        → result.status ≢ Status.Memory → RefusesWord place result.status (K.taken sink.old) (K.taken sink.new) }
+    ensures words_in_place { IsSome (refused_word (map string_bytes words.now)) → result.status ≢ Status.Memory }
     ensures words_only { result.status ≡ Status.Words → IsSome (refused_word (map string_bytes words.now)) }
     ensures words_first { IsSome (refused_word (map string_bytes words.now)) → source.new ≡ source.old }
 
@@ -40,16 +49,19 @@ pub fn run_single<S: Source, K: Sink>(
     ensures source_count { S.faults source.old ≤ S.faults source.new }
     ensures sink_count { K.faults sink.old ≤ K.faults sink.new }
 
-    // The source is read to its end or to a byte more than a text has, unless it fails or memory runs out.
-    ensures all_read { refused_word (map string_bytes words.now) ≡ None → result.status ≢ Status.Read
-        → result.status ≢ Status.Memory → (bytes : List ℕ) → S.left source.old ≡ Some bytes
-        → S.left source.new ≡ Some (drop 1048577 bytes) }
+    // For a command that works on a text the source is read to its end or to a byte more than a text may have, unless it
+    // fails or memory runs out.
+    ensures all_read { (task : Task) → served_task (map string_bytes words.now) ≡ Ok task → IsTrue (reads_bytes task)
+        → result.status ≢ Status.Read → result.status ≢ Status.Memory → (bytes : List ℕ)
+        → S.left source.old ≡ Some bytes → S.left source.new ≡ Some (drop most_read bytes) }
 
     // What was written where something failed.
     ensures unwritten_read { result.status ≡ Status.Read → sink.new ≡ sink.old }
     ensures unwritten_memory { result.status ≡ Status.Memory → sink.new ≡ sink.old }
     ensures part_written { result.status ≡ Status.Write → (bytes : List ℕ) → S.left source.old ≡ Some bytes
         → BeginsAnswer (map string_bytes words.now) bytes (K.taken sink.old) (K.taken sink.new) }
+    ensures part_of_some { result.status ≡ Status.Write → (bytes : List ℕ)
+        × BeginsAnswer (map string_bytes words.now) bytes (K.taken sink.old) (K.taken sink.new) }
 {
     let status = match command_of(words) {
         Err(place) => refuse_word(sink, place),

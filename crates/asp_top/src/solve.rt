@@ -1,4 +1,4 @@
-//! Whether a program of few atoms is coherent.
+//! Whether a program of few atoms is coherent: every set of its atoms is tried.
 ghost use Rattle.std.specs.Prelude.{◌≡◌, None, IfOk};
 ghost use Rattle.asp_defs.specs.Games.{game_of};
 ghost use Rattle.asp_defs.specs.Sizes.{game_too_large};

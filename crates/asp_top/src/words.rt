@@ -1,4 +1,4 @@
-//! The words of a command.
+//! The words of the command line: which command they ask for, or which of them is refused.
 ghost use Rattle.std.specs.Prelude.{◌≡◌, map, string_bytes};
 ghost use Rattle.asp_top.specs.Commands.{command_of, alone as alone_of};
 

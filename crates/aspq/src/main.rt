@@ -1,18 +1,21 @@
-//! The program: standard input and output, and the words of the command line, handed to the top call.
+//! The program: standard input, standard output and the words of the command line, handed to the top call.
+//!
+//! In reading order: `real` has standard input and output as a source and a sink, `command_line` has the
+//! words of the command line.
 #![tactic(auto)]
 
+mod command_line;
 mod real;
 #[cfg(test)]
 mod tests;
 
 use asp_top::{Status, run_single};
+use command_line::words;
 use real::{RealSink, RealSource};
-use std::alloc::{AllocError, Global};
 use std::process::ExitCode;
-use std::{env, io};
 
 fn main(rt: HostRuntime) -> ExitCode {
-    let status = match words(&rt) {
+    let status = match words(rt.alloc(), &rt) {
         Ok(words) => {
             let mut source = RealSource::new(rt.stdin());
             let mut sink = RealSink::new(rt.stdout());
@@ -21,13 +24,4 @@ fn main(rt: HostRuntime) -> ExitCode {
         Err(_) => Status::Memory,
     };
     ExitCode::from(status.code())
-}
-
-/// The words behind the program's name. Words that aren't text count as none, which is refused as a missing word.
-fn words(rt: &HostRuntime) -> Result<Vec<String>, AllocError> {
-    match env::args(rt) {
-        Ok(args) => args.skip(1).collect(rt.alloc()),
-        Err(error) if error.kind() == io::ErrorKind::OutOfMemory => Err(AllocError),
-        Err(_) => Ok(Vec::new(rt.alloc())),
-    }
 }
