@@ -14,6 +14,7 @@ one_choice = record {
     members = [] ∷ (0 ∷ []) ∷ (0 ∷ []) ∷ [];
   };
   rules = (record { choice = true; head = 0 ∷ []; pos = []; neg = [] } ∷ []) ∷ [] ∷ [];
+  bounds = [] ∷ [] ∷ [];
 }
 
 -- the interpretation in which its atom is true or false

@@ -5,9 +5,12 @@
 //! | `texts` | the rules of a text, for the next |
 //! | `minimality` | answer sets and nogoods of `asp_minimal`, on texts |
 //! | `programs` | the same on random programs, against the definitions over bits |
+//! | `loops` | how many nogoods rule out independent loops |
 //! | `moves` | an implementation of the trait of `asp_game`, and a caller of it |
 #![tactic(auto)]
 
+#[cfg(test)]
+mod loops;
 #[cfg(test)]
 mod minimality;
 #[cfg(test)]

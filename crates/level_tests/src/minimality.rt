@@ -1,9 +1,13 @@
 //! Answer sets and nogoods of worked programs, whose atoms are a, b, c and so on.
 
-ghost use Rattle.std.specs.Prelude.{◌≡◌, false, length, IsTrue, IfOk};
+ghost use Rattle.std.specs.Prelude.{◌≡◌, true, false, length, IsTrue, IfOk};
 ghost use Rattle.std.specs.List.{list_all};
 ghost use Rattle.asp_bits.specs.Places.{true_places};
+ghost use Rattle.asp_defs.specs.Interpretations.{holds};
+ghost use Rattle.asp_defs.specs.Games.{within};
+ghost use Rattle.asp_defs.specs.Lists.{is_empty};
 ghost use Rattle.asp_defs.specs.Truth.{is_model as is_model_of};
+ghost use Rattle.asp_defs.specs.Unfounded.{is_unfounded};
 ghost use Rattle.asp_reduct.specs.Bounds.{are_below, is_rule_below};
 ghost use Rattle.asp_minimal.specs.Choices.{bound_atoms};
 ghost use Rattle.asp_minimal.specs.Numbers.{written};
@@ -11,7 +15,7 @@ ghost use Rattle.asp_minimal.specs.Numbers.{written};
 use crate::texts::{first_rules, game_of};
 use asp_bits::Bits;
 use asp_defs::{Give, GroundRule, Kind, List, Lit, NoMemory, Unknown};
-use asp_minimal::{Minimality, minimal, nogood};
+use asp_minimal::{Minimality, minimal, nogood, nogood_of_atom};
 use asp_reduct::satisfies;
 use asp_search::Search;
 use std::alloc::Global;
@@ -22,6 +26,8 @@ const A: u32 = 1;
 const B: u32 = 2;
 
 const C: u32 = 4;
+
+const D: u32 = 8;
 
 /// What `minimal` answered.
 #[derive(Clone, Copy, PartialEq, Eq)]
@@ -61,8 +67,11 @@ pub fn atoms_of(alloc: Global, bits: u32) -> Result<List<u32>, NoMemory> {
     Ok(List::from_vec(atoms))
 }
 
-fn interpretation(alloc: Global, bits: u32) -> Result<Bits, NoMemory> {
-    let mut set = Bits::new(alloc, 8)?;
+/// The interpretation over so many atoms in which just those below 8 are true whose bits are set.
+fn interpretation(alloc: Global, len: u32, bits: u32) -> Result<Bits, NoMemory>
+    ensures { IfOk result (λ set. length set ≡ len) }
+{
+    let mut set = Bits::new(alloc, len)?;
     for atom in 0..8u32 {
         if atom < set.len() {
             set.set(atom, bits & bit(atom) != 0);
@@ -165,7 +174,7 @@ pub fn ask(
     set: u32,
     budget: u64,
 ) -> Result<Answer, NoMemory> {
-    let set = interpretation(alloc, set)?;
+    let set = interpretation(alloc, 8, set)?;
     let free = atoms_of(alloc, free)?;
     let count = bound_count(alloc, &set, free.as_slice())?;
     if !are_all_in(rules, set.len()) {
@@ -188,14 +197,54 @@ fn literals_of(clause: &[Lit]) -> u32 {
     bits
 }
 
+/// Whether the atom is one of these.
+fn is_one(atoms: &[u32], atom: u32) -> bool
+    ensures { result ≡ holds atoms.now atom }
+{
+    atoms.iter().any(|other| *other == atom)
+}
+
+/// The first of the atoms.
+fn first_of(atoms: &[u32]) -> u32 {
+    match atoms.first() {
+        Some(atom) => *atom,
+        None => 0,
+    }
+}
+
+/// The nogood of an unfounded set: of its first atom with these outer atoms, or of the whole set where there are no outer ones.
+fn nogood_of(
+    alloc: Global,
+    rules: &[GroundRule],
+    set: &Bits,
+    atoms: &List<u32>,
+    outer: Option<u32>,
+) -> Result<List<Lit>, NoMemory>
+    requires below { IsTrue (list_all (is_rule_below (length set.now)) rules.now) }
+    requires some { is_empty atoms.now ≡ false }
+    requires inside { within atoms.now (true_places set.now) ≡ true }
+    requires unfounded { is_unfounded rules.now (true_places set.now) atoms.now ≡ true }
+{
+    let Some(outer) = outer else {
+        return nogood(alloc, rules, set, atoms);
+    };
+    let atom = first_of(atoms.as_slice());
+    if !is_one(atoms.as_slice(), atom) {
+        return Ok(List::new(alloc));
+    }
+    let outer = interpretation(alloc, set.len(), outer)?;
+    nogood_of_atom(alloc, rules, set, atoms, atom, &outer)
+}
+
 /// The nogood of the set that `minimal` finds, or none where it finds none.
 pub fn ask_nogood(
     alloc: Global,
     rules: &[GroundRule],
     free: u32,
     set: u32,
+    outer: Option<u32>,
 ) -> Result<Option<u32>, NoMemory> {
-    let set = interpretation(alloc, set)?;
+    let set = interpretation(alloc, 8, set)?;
     let free = atoms_of(alloc, free)?;
     let count = bound_count(alloc, &set, free.as_slice())?;
     if !are_all_in(rules, set.len()) {
@@ -207,7 +256,7 @@ pub fn ask_nogood(
     let mut search = Search::new(alloc, count, 6561)?;
     match minimal(alloc, rules, free.as_slice(), &set, 1, &mut search) {
         Ok(Minimality::No(atoms)) => {
-            let clause = nogood(alloc, rules, &set, &atoms)?;
+            let clause = nogood_of(alloc, rules, &set, &atoms, outer)?;
             Ok(Some(literals_of(clause.as_slice())))
         }
         Err(Give::NoMemory) => Err(NoMemory),
@@ -227,7 +276,7 @@ const CHOICES: &str = "%@exists {a}. {b} :- a. {c} :- a.";
 const NEGATION: &str = "%@exists a :- not b. b :- not a. :- c.";
 
 // A text, the free atoms, the set, the budget and the answer.
-const ANSWERS: [(&str, u32, u32, u64, Answer); 23] = [
+const ANSWERS: [(&str, u32, u32, u64, Answer); 28] = [
     (LOOP, 0, A | B, 9, Answer::No(A | B)),
     (LOOP, 0, 0, 9, Answer::Yes),
     (LOOP, A, A | B, 9, Answer::Yes),
@@ -268,6 +317,20 @@ const ANSWERS: [(&str, u32, u32, u64, Answer); 23] = [
     (CYCLE, 0, A | B | C, 27, Answer::Yes),
     // No atom is left to search for.
     (CYCLE, A | B | C, A | B | C, 1, Answer::Yes),
+    // The loop is unfounded too, and c alone: without a placement.
+    (
+        "%@exists a :- b. b :- a. c :- not a.",
+        0,
+        A | B | C,
+        0,
+        Answer::No(C),
+    ),
+    (LOOP, 0, A | B, 0, Answer::Spent),
+    // With a true, the disjunction doesn't support b.
+    ("%@exists a | b. a :- b.", 0, A | B, 0, Answer::No(B)),
+    ("%@exists a | b. a :- b.", B, A | B, 3, Answer::Yes),
+    // No atom supports itself.
+    ("%@exists a :- a. b.", 0, A | B, 0, Answer::No(A)),
 ];
 
 #[test]
@@ -283,16 +346,17 @@ fn tells_answer_sets(rt: HostRuntime) -> Result<(), Fail> {
     Ok(())
 }
 
-// A text, the free atoms, the set, and the literals of the nogood: those of the unfounded set, and one for each rule that
-// could support it.
-const NOGOODS: [(&str, u32, u32, Option<u32>); 5] = [
+// A text, the free atoms, the set, the outer atoms for the nogood that denies the first atom of the unfounded set, none for the
+// one that denies them all, and the literals of the nogood: the denials, and one for each rule that could support the set.
+const NOGOODS: [(&str, u32, u32, Option<u32>, Option<u32>); 13] = [
     // not a, not b
-    (LOOP, 0, A | B, Some(0b0101)),
+    (LOOP, 0, A | B, None, Some(0b0101)),
     // c is false: c too.
     (
         "%@exists a :- b. b :- a. a :- c.",
         0,
         A | B,
+        None,
         Some(0b10_0101),
     ),
     // c is true: not c too.
@@ -300,25 +364,56 @@ const NOGOODS: [(&str, u32, u32, Option<u32>); 5] = [
         "%@exists a :- b. b :- a. a :- not c. c.",
         0,
         A | B | C,
+        None,
         Some(0b1_0101),
     ),
     (
         "%@exists a :- b. b :- a. a | c. c.",
         0,
         A | B | C,
+        None,
         Some(0b1_0101),
     ),
-    (LOOP, A, A | B, None),
+    (LOOP, A, A | B, None, None),
+    // not a
+    (LOOP, 0, A | B, Some(0), Some(0b01)),
+    // c too, also where b is the head.
+    (
+        "%@exists a :- b. b :- a. b :- c.",
+        0,
+        A | B,
+        Some(0),
+        Some(0b10_0001),
+    ),
+    // c and d are false: c, and d where that is an outer atom.
+    (OUTER_FALSE, 0, A | B, Some(0), Some(0b0010_0001)),
+    (OUTER_FALSE, 0, A | B, Some(D), Some(0b1000_0001)),
+    // c is false and d true: c, and not d where that is an outer atom.
+    (OUTER_TRUE, 0, A | B | D, Some(0), Some(0b0010_0001)),
+    (OUTER_TRUE, 0, A | B | D, Some(D), Some(0b0100_0001)),
+    // No outer atom but d, and d holds: c.
+    (
+        "%@exists a :- b. b :- a. a :- c, d. d.",
+        0,
+        A | B | D,
+        Some(D),
+        Some(0b0010_0001),
+    ),
+    (LOOP, A, A | B, Some(0), None),
 ];
+
+const OUTER_FALSE: &str = "%@exists a :- b. b :- a. a :- c, d.";
+
+const OUTER_TRUE: &str = "%@exists a :- b. b :- a. a :- c, not d. d.";
 
 #[test]
 fn makes_nogoods(rt: HostRuntime) -> Result<(), Fail> {
-    for (text, free, set, nogood) in NOGOODS {
+    for (text, free, set, outer, nogood) in NOGOODS {
         let game = game_of(rt.alloc(), text)?;
         assert_eq!(rt;
-            ask_nogood(rt.alloc(), first_rules(&game), free, set)?,
+            ask_nogood(rt.alloc(), first_rules(&game), free, set, outer)?,
             nogood,
-            "{text} free {free} set {set}"
+            "{text} free {free} set {set} outer {outer:?}"
         );
     }
     Ok(())

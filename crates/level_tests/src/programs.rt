@@ -9,14 +9,14 @@ use std::test::Fail;
 
 /// A rule over the atoms below 8, each list of atoms as bits.
 #[derive(Debug, Clone, Copy, PartialEq, Eq)]
-struct Shape {
-    choice: bool,
-    head: u32,
-    pos: u32,
-    neg: u32,
+pub struct Shape {
+    pub choice: bool,
+    pub head: u32,
+    pub pos: u32,
+    pub neg: u32,
 }
 
-fn rules_of(alloc: Global, shapes: &[Shape]) -> Result<Vec<GroundRule>, NoMemory> {
+pub fn rules_of(alloc: Global, shapes: &[Shape]) -> Result<Vec<GroundRule>, NoMemory> {
     let mut rules = Vec::new(alloc);
     for shape in shapes {
         let rule = GroundRule {
@@ -38,7 +38,7 @@ fn body_true(shape: Shape, set: u32) -> bool {
     shape.pos & !set == 0 && shape.neg & set == 0
 }
 
-fn is_model(shapes: &[Shape], set: u32) -> bool {
+pub fn is_model(shapes: &[Shape], set: u32) -> bool {
     shapes.iter().all(|shape| shape.choice || !body_true(*shape, set) || shape.head & set != 0)
 }
 
@@ -79,8 +79,8 @@ fn refutes(shapes: &[Shape], free: u32, set: u32, part: u32) -> bool {
 }
 
 /// Whether a literal of the clause is true in a set: bit `2 * atom + 1` stands for an atom, bit `2 * atom` for its negation.
-fn is_true(clause: u32, set: u32) -> bool {
-    for atom in 0..4u32 {
+pub fn is_true(clause: u32, set: u32) -> bool {
+    for atom in 0..8u32 {
         let literal = 2 * atom + u32::from((set >> atom) % 2 == 1);
         if (clause >> literal) % 2 == 1 {
             return true;
@@ -140,12 +140,17 @@ fn draw_shape(seed: &mut u32) -> Shape {
     }
 }
 
-/// Whether the answers for each set of atoms are right.
-fn are_right(alloc: Global, shapes: &[Shape], free: u32) -> Result<bool, NoMemory> {
+/// Whether the answers for each set of atoms are right, with a nogood that denies one atom or the whole unfounded set.
+fn are_right(
+    alloc: Global,
+    shapes: &[Shape],
+    free: u32,
+    outer: Option<u32>,
+) -> Result<bool, NoMemory> {
     let rules = rules_of(alloc, shapes)?;
     for set in 0..SETS {
         let answer = ask(alloc, rules.as_slice(), free, set, 81)?;
-        let clause = ask_nogood(alloc, rules.as_slice(), free, set)?;
+        let clause = ask_nogood(alloc, rules.as_slice(), free, set, outer)?;
         if !is_right(shapes, free, set, answer, clause) {
             return Ok(false);
         }
@@ -165,7 +170,11 @@ fn agrees_on_random_programs(rt: HostRuntime) -> Result<(), Fail> {
             draw_shape(&mut seed),
         ];
         let free = draw(&mut seed) & draw(&mut seed) & 15;
-        assert!(rt; are_right(rt.alloc(), &shapes, free)?, "round {round}");
+        let outer = if round % 2 == 0 { None } else { Some(12) };
+        assert!(rt;
+            are_right(rt.alloc(), &shapes, free, outer)?,
+            "round {round}"
+        );
     }
     Ok(())
 }

@@ -8,9 +8,12 @@ use asp_read::read;
 use std::alloc::Global;
 use std::test::Fail;
 
+/// The most bytes of a text.
+const MOST_BYTES: usize = 1_048_576;
+
 /// The game of a text.
 pub fn game_of(alloc: Global, text: &str) -> Result<Game, Fail> {
-    if text.len() > 1_048_576 {
+    if text.len() > MOST_BYTES {
         return Err(Fail::new("too long a text"));
     }
     let Ok(program) = read(alloc, text.as_bytes()) else {

@@ -1,11 +1,13 @@
 //! Tests of the whole run and of sources and sinks in memory, against answers that were found by hand.
 //!
 //! In reading order: `memory` (reading and writing, with pieces, limits and faults), `runs` (how a row is run), `words`,
-//! `refused`, `printed`, `solved` and `games` (rows of words, texts, outputs and statuses), `limits`, `sizes` and `names`
-//! (texts that reach or pass a limit), `faults` (sources and sinks that fail), `examples` (the texts of the folder
-//! `examples`).
+//! `refused`, `printed`, `solved`, `games`, `bounds` and `negation` (rows of words, texts, outputs and statuses),
+//! `limits`, `sizes` and `names` (texts that reach or pass a limit), `faults` (sources and sinks that fail), `examples`
+//! (the texts of the folder `examples`).
 #![tactic(auto)]
 
+#[cfg(test)]
+mod bounds;
 #[cfg(test)]
 mod examples;
 #[cfg(test)]
@@ -18,6 +20,8 @@ mod limits;
 mod memory;
 #[cfg(test)]
 mod names;
+#[cfg(test)]
+mod negation;
 #[cfg(test)]
 mod printed;
 #[cfg(test)]

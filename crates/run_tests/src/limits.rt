@@ -1,5 +1,5 @@
 //! Texts that reach a limit on programs or on bytes, and those that pass it by one.
-use crate::runs::{Row, check_refusal, check_run, repeated};
+use crate::runs::{check_refusal, check_run, repeated};
 use std::alloc::{AllocError, Global};
 use std::process::Abort;
 use std::test::Fail;
@@ -71,11 +71,66 @@ fn refuses_past_each_limit(rt: HostRuntime) -> Result<(), Fail> {
     Ok(refuse_rows(&rt, rt.alloc(), &LIMITS)?)
 }
 
-/// The words, how a text begins that blanks bring to the greatest length, its output and the exit status.
-const LONG: [Row; 3] = [
-    ("solve", "", "aspq: no level\n", 3),
-    ("solve", "%@exists", "COHERENT\n", 10),
-    ("check", "%@exists", "%@exists\n", 0),
+/// The words, how a text begins, the length to which blanks bring it, its output, the exit status, and the row's name.
+type Long = (
+    &'static str,
+    &'static str,
+    usize,
+    &'static str,
+    u8,
+    &'static str,
+);
+
+/// The greatest length, and one byte more.
+const LONG: [Long; 6] = [
+    (
+        "solve",
+        "",
+        1_048_576,
+        "aspq: no level\n",
+        3,
+        "blanks of the greatest length",
+    ),
+    (
+        "solve",
+        "",
+        1_048_577,
+        "aspq: too large: bytes 1048577\n",
+        3,
+        "blanks past the greatest length",
+    ),
+    (
+        "solve",
+        "%@exists",
+        1_048_576,
+        "COHERENT\n",
+        10,
+        "a level of the greatest length",
+    ),
+    (
+        "solve",
+        "%@exists",
+        1_048_577,
+        "aspq: too large: bytes 1048577\n",
+        3,
+        "a level past the greatest length",
+    ),
+    (
+        "check",
+        "%@exists",
+        1_048_576,
+        "%@exists\n",
+        0,
+        "a level of the greatest length",
+    ),
+    (
+        "check",
+        "%@exists",
+        1_048_577,
+        "aspq: too large: bytes 1048577\n",
+        3,
+        "a level past the greatest length",
+    ),
 ];
 
 /// The text, with blanks behind it up to so many bytes.
@@ -85,17 +140,12 @@ fn lengthened(alloc: Global, text: &str, count: usize) -> Result<Vec<u8>, AllocE
     Ok(bytes)
 }
 
-/// The refusal of a text with one byte too many.
-const TOO_LONG: (&[u8], u8) = (b"aspq: too large: bytes 1048577\n", 3);
-
-/// Runs each text at the greatest length, and with one blank more.
-fn run_long_rows(rt: &impl Abort, alloc: Global, rows: &[Row]) -> Result<(), AllocError> {
-    for (words, text, output, code) in rows {
-        let long = lengthened(alloc, text, 1_048_576)?;
+/// Runs each text at its length.
+fn run_long_rows(rt: &impl Abort, alloc: Global, rows: &[Long]) -> Result<(), AllocError> {
+    for (words, text, length, output, code, name) in rows {
+        let bytes = lengthened(alloc, text, *length)?;
         let expected = (output.as_bytes(), *code);
-        check_run(rt, alloc, words, long.as_slice(), 60_000, expected, text)?;
-        let longer = lengthened(alloc, text, 1_048_577)?;
-        check_run(rt, alloc, words, longer.as_slice(), 60_000, TOO_LONG, text)?;
+        check_run(rt, alloc, words, bytes.as_slice(), 60_000, expected, name)?;
     }
     Ok(())
 }

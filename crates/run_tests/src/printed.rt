@@ -76,7 +76,7 @@ const PRINTED: [Row; 19] = [
 ];
 
 /// Forms that are printed in one way alone.
-const FORMS: [Row; 18] = [
+const FORMS: [Row; 25] = [
     ("check", "%@exists p(1..2).", "%@exists\np(1..2).\n", 0),
     ("check", "%@exists p(1 .. 2).", "%@exists\np(1..2).\n", 0),
     ("check", "%@exists p(-1).", "%@exists\np(-1).\n", 0),
@@ -108,6 +108,43 @@ const FORMS: [Row; 18] = [
         0,
     ),
     ("check", "%@exists{a:q(_)}.", "%@exists\n{a : q(_)}.\n", 0),
+    (
+        "check",
+        "%@exists- a:-not - b,-c.",
+        "%@exists\n-a :- not -b, -c.\n",
+        0,
+    ),
+    ("check", "%@exists a:--b.", "%@exists\na :- -b.\n", 0),
+    (
+        "check",
+        "%@exists-p(1..2,-1).",
+        "%@exists\n-p(1..2,-1).\n",
+        0,
+    ),
+    (
+        "check",
+        "%@exists\n{a} 1 :- not b.\n",
+        "%@exists\n{a} 1 :- not b.\n",
+        0,
+    ),
+    (
+        "check",
+        "%@exists{a}1:-not b.",
+        "%@exists\n{a} 1 :- not b.\n",
+        0,
+    ),
+    (
+        "check",
+        "%@exists 01{a: -b;-c}-0.",
+        "%@exists\n1 {a : -b; -c} 0.\n",
+        0,
+    ),
+    (
+        "check",
+        "%@exists-2{}3:--d.",
+        "%@exists\n-2 {} 3 :- -d.\n",
+        0,
+    ),
     (
         "check",
         "%@exists a:-q(_),_=1,2=_.",

@@ -3,7 +3,8 @@
 ghost use Rattle.std.specs.Prelude.{◌<◌};
 
 use crate::numbers::draw;
-use crate::probe::{Answer, ask, ask_in_order, bit, probe_of};
+use crate::probe::{Answer, Probe, ask, ask_in_order, bit, probe_of};
+use crate::rows::expect_number;
 use asp_search::NoMemory;
 use std::alloc::Global;
 use std::test::Fail;
@@ -91,13 +92,23 @@ fn formula_of(alloc: Global, number: u32) -> Result<Vec<u32>, NoMemory> {
     Ok(clauses)
 }
 
-/// Whether a search, which places fewer than 3^3 literals, is right without order and in order.
+/// Whether a search over three atoms is right without order and in order.
+fn is_right_twice(alloc: Global, probe: &mut Probe, clauses: &[u32]) -> Result<bool, Fail> {
+    let answer = ask(alloc, probe, 0)?;
+    let first = ask_in_order(alloc, probe)?;
+    Ok(is_right(answer, clauses, 0) && first == first_of(clauses))
+}
+
+/// Whether a search over three atoms, which places fewer than 3^3 literals, is right.
+fn try_clauses(alloc: Global, clauses: &[u32]) -> Result<bool, Fail> {
+    let mut probe = probe_of(alloc, 3, 27, clauses)?;
+    is_right_twice(alloc, &mut probe, clauses)
+}
+
+/// Whether a search is right for the formula of a number.
 fn try_formula(alloc: Global, number: u32) -> Result<bool, Fail> {
     let clauses = formula_of(alloc, number)?;
-    let mut probe = probe_of(alloc, 3, 27, clauses.as_slice())?;
-    let answer = ask(alloc, &mut probe, 0)?;
-    let first = ask_in_order(alloc, &mut probe)?;
-    Ok(is_right(answer, clauses.as_slice(), 0) && first == first_of(clauses.as_slice()))
+    try_clauses(alloc, clauses.as_slice())
 }
 
 // All formulas of up to three atoms and four clauses: a clause is one of the 27 sets of literals without both of an
@@ -108,13 +119,11 @@ fn agrees_on_all_small_formulas(rt: HostRuntime) -> Result<(), Fail> {
     let mut tried = 0u32;
     for number in 0..614_656u32 {
         if is_ascending(number) {
-            let right = try_formula(rt.alloc(), number)?;
-            assert!(rt; right, "formula {number}");
+            expect_number(try_formula(rt.alloc(), number)?, number)?;
             tried = tried.saturating_add(1);
         }
     }
-    assert_eq!(rt; tried, 31_465);
-    Ok(())
+    expect_number(tried == 31_465, tried)
 }
 
 /// Clauses of three literals of the first eight atoms.
@@ -139,22 +148,36 @@ fn draw_assumptions(seed: &mut u32) -> u32 {
     assumed
 }
 
-/// Whether a search, which places fewer than 3^8 literals, is right under assumptions and then without.
+/// Whether a search is right under assumptions and then without.
+fn is_right_freed(
+    alloc: Global,
+    probe: &mut Probe,
+    clauses: &[u32],
+    assumed: u32,
+) -> Result<bool, Fail> {
+    let under = ask(alloc, probe, assumed)?;
+    let free = ask(alloc, probe, 0)?;
+    Ok(is_right(under, clauses, assumed) && is_right(free, clauses, 0))
+}
+
+/// Whether a search over eight atoms, which places fewer than 3^8 literals, is right.
+fn try_assumed(alloc: Global, clauses: &[u32], assumed: u32) -> Result<bool, Fail> {
+    let mut probe = probe_of(alloc, 8, 6561, clauses)?;
+    is_right_freed(alloc, &mut probe, clauses, assumed)
+}
+
+/// Whether a search is right for a formula and assumptions that are drawn.
 fn try_random(alloc: Global, seed: &mut u32, clauses: u32) -> Result<bool, Fail> {
     let formula = draw_formula(alloc, seed, clauses)?;
     let assumed = draw_assumptions(seed);
-    let mut probe = probe_of(alloc, 8, 6561, formula.as_slice())?;
-    let under = ask(alloc, &mut probe, assumed)?;
-    let free = ask(alloc, &mut probe, 0)?;
-    Ok(is_right(under, formula.as_slice(), assumed) && is_right(free, formula.as_slice(), 0))
+    try_assumed(alloc, formula.as_slice(), assumed)
 }
 
 #[test]
 fn agrees_on_random_formulas(rt: HostRuntime) -> Result<(), Fail> {
     let mut seed = 1;
     for round in 0..500u32 {
-        let right = try_random(rt.alloc(), &mut seed, round % 50)?;
-        assert!(rt; right, "round {round}");
+        expect_number(try_random(rt.alloc(), &mut seed, round % 50)?, round)?;
     }
     Ok(())
 }

@@ -2,6 +2,7 @@
 //!
 //! | module | tests |
 //! |---|---|
+//! | `rows` | how a test names the row that fails |
 //! | `literals` | whether codes are literals of so many atoms |
 //! | `clauses` | trails, books and propagation of `asp_clauses` |
 //! | `probe` | a search of `asp_search` with answers in numbers, for the next two |
@@ -19,5 +20,7 @@ mod literals;
 pub mod numbers;
 #[cfg(test)]
 mod probe;
+#[cfg(test)]
+mod rows;
 #[cfg(test)]
 mod search;

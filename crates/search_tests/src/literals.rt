@@ -1,7 +1,7 @@
 //! Whether codes are literals that a clause or assumptions may have.
 
 ghost use Rattle.std.specs.Prelude.{◌*◌, IsTrue};
-ghost use Rattle.asp_search.specs.Marks.{AreCodes};
+ghost use Rattle.asp_search.specs.Seen.{AreCodes};
 ghost use Rattle.asp_search.specs.State.{AreDifferent};
 
 /// Whether each literal is one of so many atoms.

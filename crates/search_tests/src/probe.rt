@@ -3,7 +3,8 @@
 //! A set of literals over at most 16 atoms is a number: bit `2 * atom + 1` stands for the atom, bit `2 * atom` for its negation.
 //! Over more atoms a bit stands for each 16th of them.
 
-ghost use Rattle.std.specs.Prelude.{◌≡◌, ◌≢◌, ◌≤◌, Ok};
+ghost use Rattle.std.specs.Prelude.{◌≡◌, ◌≢◌, ◌≤◌, Bool, Ok, Some};
+ghost use Rattle.asp_clauses.specs.Literal.{most_atoms};
 ghost use Rattle.asp_search.specs.declared.stage.Stage.TheVariants.{New};
 ghost use Rattle.asp_search.specs.State.{HasFound};
 
@@ -28,18 +29,24 @@ pub enum Answer {
 pub struct Probe {
     pub search: Search,
     pub atoms: u32,
+    ordered: bool,
     ghost same_atoms: { search.atoms ≡ atoms },
     ghost begun: { search.stage ≢ New },
+    ghost same: { (was : Bool) → search.ordered ≡ Some was → was ≡ ordered },
 }
 
 impl Probe {
     /// A search over so many atoms that has begun without assumptions.
     pub fn new(alloc: Global, atoms: u32, budget: u64) -> Result<Probe, Fail>
-        requires { atoms ≤ 262144 }
+        requires { atoms ≤ most_atoms }
     {
         let mut search = Search::new(alloc, atoms, budget)?;
         search.begin(alloc, &[])?;
-        Ok(Probe { search, atoms })
+        Ok(Probe {
+            search,
+            atoms,
+            ordered: false,
+        })
     }
 
     /// Adds a clause, and fails where a code is no literal of the atoms.
@@ -53,6 +60,11 @@ impl Probe {
 
     /// Begins under assumptions, and fails where they aren't ascending literals of the atoms.
     pub fn begin(&mut self, alloc: Global, assumed: &[u32]) -> Result<(), Fail> {
+        self.begin_as(alloc, assumed, false)
+    }
+
+    /// The same; `ordered` asks for the first assignment, in the order of the atoms.
+    fn begin_as(&mut self, alloc: Global, assumed: &[u32], ordered: bool) -> Result<(), Fail> {
         if !are_codes(assumed, self.atoms) {
             return Err(Fail::new("no literals of the atoms"));
         }
@@ -60,12 +72,13 @@ impl Probe {
             return Err(Fail::new("no literals of the atoms"));
         }
         self.search.begin(alloc, assumed)?;
+        self.ordered = ordered;
         Ok(())
     }
 
     /// The next answer.
-    pub fn next(&mut self, alloc: Global, ordered: bool) -> Answer {
-        let outcome = self.search.next(alloc, ordered);
+    pub fn next(&mut self, alloc: Global) -> Answer {
+        let outcome = self.search.next(alloc, self.ordered);
         answer_of(&self.search, self.atoms, outcome)
     }
 }
@@ -118,15 +131,25 @@ fn literals_of(alloc: Global, bits: u32) -> Result<Vec<u32>, NoMemory> {
     Ok(literals)
 }
 
+/// Adds a clause that is bits of literals.
+fn add_bits(alloc: Global, probe: &mut Probe, clause: u32) -> Result<(), Fail> {
+    let literals = literals_of(alloc, clause)?;
+    probe.add(alloc, literals.as_slice())
+}
+
+fn add_all(alloc: Global, probe: &mut Probe, clauses: &[u32]) -> Result<(), Fail> {
+    for clause in clauses {
+        add_bits(alloc, probe, *clause)?;
+    }
+    Ok(())
+}
+
 /// A search over clauses that are bits of literals.
 pub fn probe_of(alloc: Global, atoms: u32, budget: u64, clauses: &[u32]) -> Result<Probe, Fail>
     requires { atoms ≤ 16 }
 {
     let mut probe = Probe::new(alloc, atoms, budget)?;
-    for clause in clauses {
-        let literals = literals_of(alloc, *clause)?;
-        probe.add(alloc, literals.as_slice())?;
-    }
+    add_all(alloc, &mut probe, clauses)?;
     Ok(probe)
 }
 
@@ -134,11 +157,11 @@ pub fn probe_of(alloc: Global, atoms: u32, budget: u64, clauses: &[u32]) -> Resu
 pub fn ask(alloc: Global, probe: &mut Probe, assumed: u32) -> Result<Answer, Fail> {
     let literals = literals_of(alloc, assumed)?;
     probe.begin(alloc, literals.as_slice())?;
-    Ok(probe.next(alloc, false))
+    Ok(probe.next(alloc))
 }
 
 /// Begins anew, and decides the first atom without a value, false, each time.
 pub fn ask_in_order(alloc: Global, probe: &mut Probe) -> Result<Answer, Fail> {
-    probe.begin(alloc, &[])?;
-    Ok(probe.next(alloc, true))
+    probe.begin_as(alloc, &[], true)?;
+    Ok(probe.next(alloc))
 }

@@ -1,7 +1,8 @@
 //! Searches that were worked out by hand.
 
 use crate::formulas::is_right;
-use crate::probe::{Answer, Probe, ask, bit, probe_of};
+use crate::probe::{Answer, Probe, probe_of};
+use crate::rows::expect;
 use asp_search::NoMemory;
 use std::alloc::Global;
 use std::test::Fail;
@@ -15,75 +16,225 @@ const ALL_TRUE: u32 = 0xaaaa_aaaa;
 /// The same, each false.
 const ALL_FALSE: u32 = 0x5555_5555;
 
-// Atom 0 or atom 1, and not atom 0.
-#[test]
-fn finds_the_one_assignment(rt: HostRuntime) -> Result<(), Fail> {
-    let mut probe = Probe::new(rt.alloc(), 2, 9)?;
-    probe.add(rt.alloc(), &[1, 3])?;
-    probe.add(rt.alloc(), &[0])?;
-    assert!(rt; probe.next(rt.alloc(), false) == Answer::Found(0b1001));
-    // Both literals are implied.
-    let search = &probe.search;
-    assert_eq!(rt;
-        (search.decisions(), search.placements(), search.clauses()),
-        (0, 2, 2)
-    );
+/// What is done with a search, and what it answers.
+enum Act {
+    /// Adds the clause of these literals.
+    Add(&'static [u32]),
+    /// Begins anew under the assumption of these literals.
+    Begin(&'static [u32]),
+    /// The next answer is this one.
+    Answer(Answer),
+    /// The next answer is right for these clauses, which are bits of literals.
+    Right(&'static [u32]),
+    /// So many literals were decided, and so many placed.
+    Placed(u64, u64),
+    /// So many clauses are kept.
+    Clauses(u32),
+    /// So many literals may be placed.
+    Budget(u64),
+    /// Adds that each atom implies the next, over as many as there can be.
+    AddChain,
+    /// Adds that not all of as many atoms as there can be are true.
+    AddLongest,
+    /// Begins under the assumption that each of as many atoms as there can be has this value.
+    BeginLongest(bool),
+}
+
+/// A name, how many atoms there are, the budget, and what is done one after the other.
+type Script = (&'static str, u32, u64, &'static [Act]);
+
+const SCRIPTS: [Script; 8] = [
+    // Atom 0 or atom 1, and not atom 0: both literals are implied.
+    (
+        "finds the one assignment",
+        2,
+        9,
+        &[
+            Act::Add(&[1, 3]),
+            Act::Add(&[0]),
+            Act::Answer(Answer::Found(0b1001)),
+            Act::Placed(0, 2),
+            Act::Clauses(2),
+        ],
+    ),
+    // Atom 0 or atom 1, under both negations.
+    (
+        "answers both assumptions",
+        2,
+        9,
+        &[
+            Act::Add(&[1, 3]),
+            Act::Begin(&[0, 2]),
+            Act::Answer(Answer::Core(0b0101, 2)),
+        ],
+    ),
+    // Two atoms need two placements.
+    (
+        "finds with just enough",
+        2,
+        2,
+        &[Act::Right(&[]), Act::Budget(2)],
+    ),
+    // One placement is too few for two atoms, and enough to refuse an assumption.
+    (
+        "begins again after it is spent",
+        2,
+        1,
+        &[
+            Act::Answer(Answer::Spent),
+            Act::Answer(Answer::Spent),
+            Act::Add(&[0]),
+            Act::Answer(Answer::Spent),
+            Act::Begin(&[1]),
+            Act::Answer(Answer::Core(0b10, 1)),
+        ],
+    ),
+    // Atom 0 or atom 1, and not atom 0 by assumption. A clause, in which a literal stands twice, forbids what was found.
+    (
+        "goes on after an assignment",
+        2,
+        9,
+        &[
+            Act::Add(&[1, 3]),
+            Act::Begin(&[0]),
+            Act::Answer(Answer::Found(0b1001)),
+            Act::Answer(Answer::Found(0b1001)),
+            Act::Add(&[1, 2, 1]),
+            Act::Answer(Answer::Core(0b1, 1)),
+        ],
+    ),
+    // Atom 0 by the clauses: after a core there is an assignment without the assumption.
+    (
+        "begins again after a core",
+        2,
+        9,
+        &[
+            Act::Add(&[1, 3]),
+            Act::Add(&[1, 2]),
+            Act::Begin(&[0]),
+            Act::Answer(Answer::Core(0b1, 1)),
+            Act::Begin(&[]),
+            Act::Right(&[0b1010, 0b0110]),
+        ],
+    ),
+    // All but the first atom are implied; the first atom and not the last one exclude each other.
+    (
+        "follows the longest chain",
+        MOST_ATOMS,
+        262_144,
+        &[
+            Act::AddChain,
+            Act::Begin(&[1]),
+            Act::Answer(Answer::Found(ALL_TRUE)),
+            Act::Placed(1, 262_144),
+            Act::Begin(&[1, 524_286]),
+            Act::Answer(Answer::Core(0x4000_0002, 2)),
+        ],
+    ),
+    // Not all atoms are true: that holds where all are false, and it is against the assumptions where all are true.
+    (
+        "takes the longest clause",
+        MOST_ATOMS,
+        u64::MAX,
+        &[
+            Act::AddLongest,
+            Act::BeginLongest(false),
+            Act::Answer(Answer::Found(ALL_FALSE)),
+            Act::BeginLongest(true),
+            Act::Answer(Answer::Core(ALL_TRUE, 262_144)),
+        ],
+    ),
+];
+
+/// Whether the next answer is this one.
+fn answers(alloc: Global, probe: &mut Probe, answer: Answer) -> bool {
+    probe.next(alloc) == answer
+}
+
+/// Whether so many literals were decided and placed.
+fn has_placed(probe: &Probe, decisions: u64, placements: u64) -> bool {
+    probe.search.decisions() == decisions && probe.search.placements() == placements
+}
+
+/// Adds that each atom implies the next.
+fn add_chain(alloc: Global, probe: &mut Probe) -> Result<(), Fail> {
+    for atom in 1..MOST_ATOMS {
+        probe.add(alloc, &[2 * (atom - 1), 2 * atom + 1])?;
+    }
     Ok(())
 }
 
-// Atom 0 or atom 1, under both negations.
-#[test]
-fn answers_both_assumptions(rt: HostRuntime) -> Result<(), Fail> {
-    let mut probe = Probe::new(rt.alloc(), 2, 9)?;
-    probe.add(rt.alloc(), &[1, 3])?;
-    probe.begin(rt.alloc(), &[0, 2])?;
-    assert!(rt; probe.next(rt.alloc(), false) == Answer::Core(0b0101, 2));
+/// The literals of as many atoms as there can be, each with this value.
+fn longest(alloc: Global, value: bool) -> Result<Vec<u32>, NoMemory> {
+    let mut literals = Vec::new(alloc);
+    for atom in 0..MOST_ATOMS {
+        literals.push(2 * atom + u32::from(value))?;
+    }
+    Ok(literals)
+}
+
+/// Adds that not all atoms are true.
+fn add_longest(alloc: Global, probe: &mut Probe) -> Result<(), Fail> {
+    // From the last atom on: literals that become false from the first one on would cost the square of the length.
+    let mut clause = longest(alloc, false)?;
+    clause.reverse();
+    probe.add(alloc, clause.as_slice())
+}
+
+/// Begins under the assumption that each atom has this value.
+fn begin_longest(alloc: Global, probe: &mut Probe, value: bool) -> Result<(), Fail> {
+    let assumed = longest(alloc, value)?;
+    probe.begin(alloc, assumed.as_slice())
+}
+
+/// Does something, and answers whether what is told then is as it should be.
+fn does(alloc: Global, probe: &mut Probe, act: &Act) -> Result<bool, Fail> {
+    match act {
+        Act::Add(clause) => probe.add(alloc, clause)?,
+        Act::Begin(assumed) => probe.begin(alloc, assumed)?,
+        Act::AddChain => add_chain(alloc, probe)?,
+        Act::AddLongest => add_longest(alloc, probe)?,
+        Act::BeginLongest(value) => begin_longest(alloc, probe, *value)?,
+        _ => return Ok(tells(alloc, probe, act)),
+    }
+    Ok(true)
+}
+
+/// Whether what is told is as it should be.
+fn tells(alloc: Global, probe: &mut Probe, act: &Act) -> bool {
+    match act {
+        Act::Answer(answer) => answers(alloc, probe, *answer),
+        Act::Right(clauses) => is_right(probe.next(alloc), clauses, 0),
+        Act::Placed(decisions, placements) => has_placed(probe, *decisions, *placements),
+        Act::Clauses(count) => probe.search.clauses() == *count,
+        Act::Budget(budget) => probe.search.budget() == *budget,
+        _ => false,
+    }
+}
+
+/// Does one thing after the other, and fails where one isn't as it should be.
+fn follow(alloc: Global, probe: &mut Probe, name: &str, acts: &[Act]) -> Result<(), Fail> {
+    for act in acts {
+        expect(does(alloc, probe, act)?, name)?;
+    }
     Ok(())
 }
 
-// Two atoms need two placements.
-#[test]
-fn finds_with_just_enough(rt: HostRuntime) -> Result<(), Fail> {
-    let mut probe = Probe::new(rt.alloc(), 2, 2)?;
-    assert!(rt; is_right(probe.next(rt.alloc(), false), &[], 0));
-    assert_eq!(rt; probe.search.budget(), 2);
+fn run_script(alloc: Global, script: &Script) -> Result<(), Fail> {
+    let mut probe = Probe::new(alloc, MOST_ATOMS.min(script.1), script.2)?;
+    follow(alloc, &mut probe, script.0, script.3)
+}
+
+fn run_scripts(alloc: Global, scripts: &[Script]) -> Result<(), Fail> {
+    for script in scripts {
+        run_script(alloc, script)?;
+    }
     Ok(())
 }
 
-// One placement is too few for two atoms, and enough to refuse an assumption.
 #[test]
-fn begins_again_after_it_is_spent(rt: HostRuntime) -> Result<(), Fail> {
-    let mut probe = Probe::new(rt.alloc(), 2, 1)?;
-    assert!(rt; probe.next(rt.alloc(), false) == Answer::Spent);
-    assert!(rt; probe.next(rt.alloc(), false) == Answer::Spent);
-    probe.add(rt.alloc(), &[0])?;
-    assert!(rt; probe.next(rt.alloc(), false) == Answer::Spent);
-    probe.begin(rt.alloc(), &[1])?;
-    assert!(rt; probe.next(rt.alloc(), false) == Answer::Core(0b10, 1));
-    Ok(())
-}
-
-// Atom 0 or atom 1, and not atom 0 by assumption. A clause, in which a literal stands twice, forbids what was found.
-#[test]
-fn goes_on_after_an_assignment(rt: HostRuntime) -> Result<(), Fail> {
-    let mut probe = Probe::new(rt.alloc(), 2, 9)?;
-    probe.add(rt.alloc(), &[1, 3])?;
-    probe.begin(rt.alloc(), &[0])?;
-    assert!(rt; probe.next(rt.alloc(), false) == Answer::Found(0b1001));
-    assert!(rt; probe.next(rt.alloc(), false) == Answer::Found(0b1001));
-    probe.add(rt.alloc(), &[1, 2, 1])?;
-    assert!(rt; probe.next(rt.alloc(), false) == Answer::Core(0b1, 1));
-    Ok(())
-}
-
-// Atom 0 by the clauses: after a core there is an assignment without the assumption.
-#[test]
-fn begins_again_after_a_core(rt: HostRuntime) -> Result<(), Fail> {
-    let clauses = [0b1010, 0b0110];
-    let mut probe = probe_of(rt.alloc(), 2, 9, &clauses)?;
-    assert!(rt; ask(rt.alloc(), &mut probe, 0b1)? == Answer::Core(0b1, 1));
-    assert!(rt; is_right(ask(rt.alloc(), &mut probe, 0)?, &clauses, 0));
-    Ok(())
+fn answers_as_worked_out_by_hand(rt: HostRuntime) -> Result<(), Fail> {
+    run_scripts(rt.alloc(), &SCRIPTS)
 }
 
 /// A search where three pigeons are to sit in two holes: atom `2 * pigeon + hole` says which sits where, so a digit in base
@@ -98,81 +249,50 @@ fn pigeons(alloc: Global, budget: u64) -> Result<Probe, Fail> {
 /// The answer under a budget, and the placements that it took.
 fn seat_pigeons(alloc: Global, budget: u64) -> Result<(Answer, u64), Fail> {
     let mut probe = pigeons(alloc, budget)?;
-    let answer = probe.next(alloc, false);
+    let answer = probe.next(alloc);
     Ok((answer, probe.search.placements()))
+}
+
+/// Whether the search is so answered under a budget after so many placements.
+fn is_seated(alloc: Global, budget: u64, answer: Answer, placements: u64) -> Result<bool, Fail> {
+    let (told, needed) = seat_pigeons(alloc, budget)?;
+    Ok(told == answer && needed == placements)
 }
 
 // A budget of just the placements that a search with conflicts took, and of one less.
 #[test]
 fn needs_its_placements(rt: HostRuntime) -> Result<(), Fail> {
-    let (answer, needed) = seat_pigeons(rt.alloc(), u64::MAX)?;
-    assert!(rt; answer == Answer::Core(0, 0));
-    assert!(rt; needed > 1);
-    assert!(rt; seat_pigeons(rt.alloc(), needed)? == (Answer::Core(0, 0), needed));
+    let alloc = rt.alloc();
+    let (answer, needed) = seat_pigeons(alloc, u64::MAX)?;
+    expect(
+        answer == Answer::Core(0, 0),
+        "there is no place for one of them",
+    )?;
+    expect(needed > 1, "places literals")?;
+    let core = Answer::Core(0, 0);
+    expect(is_seated(alloc, needed, core, needed)?, "needs no more")?;
     let fewer = needed.saturating_sub(1);
-    assert!(rt; seat_pigeons(rt.alloc(), fewer)? == (Answer::Spent, fewer));
-    Ok(())
+    expect(
+        is_seated(alloc, fewer, Answer::Spent, fewer)?,
+        "needs no fewer",
+    )
 }
 
-// Here memory is the machine's, so want of it comes only where `rt try --test --fail-alloc N` makes it: a search goes
-// on after it as if it hadn't come.
+/// Fails where a search doesn't go on after refused memory as if it hadn't come.
+fn go_on(alloc: Global, probe: &mut Probe) -> Result<(), Fail> {
+    if answers(alloc, probe, Answer::NoMemory) {
+        expect(
+            answers(alloc, probe, Answer::NoMemory),
+            "stays without memory",
+        )?;
+    }
+    probe.begin(alloc, &[1])?;
+    expect(answers(alloc, probe, Answer::Core(0, 0)), "goes on")
+}
+
+// Here memory is the machine's, so it is refused only where `rt try --test --fail-alloc N` makes it.
 #[test]
-fn begins_again_after_want_of_memory(rt: HostRuntime) -> Result<(), Fail> {
+fn begins_again_out_of_memory(rt: HostRuntime) -> Result<(), Fail> {
     let mut probe = pigeons(rt.alloc(), u64::MAX)?;
-    if probe.next(rt.alloc(), false) == Answer::NoMemory {
-        assert!(rt; probe.next(rt.alloc(), false) == Answer::NoMemory);
-    }
-    probe.begin(rt.alloc(), &[1])?;
-    assert!(rt; probe.next(rt.alloc(), false) == Answer::Core(0, 0));
-    Ok(())
-}
-
-/// Adds that each atom implies the next.
-fn add_chain(alloc: Global, probe: &mut Probe) -> Result<(), Fail> {
-    for atom in 1..MOST_ATOMS {
-        probe.add(alloc, &[2 * (atom - 1), 2 * atom + 1])?;
-    }
-    Ok(())
-}
-
-#[test]
-fn follows_the_longest_chain(rt: HostRuntime) -> Result<(), Fail> {
-    let mut probe = Probe::new(rt.alloc(), MOST_ATOMS, 262_144)?;
-    add_chain(rt.alloc(), &mut probe)?;
-    probe.begin(rt.alloc(), &[1])?;
-    assert!(rt; probe.next(rt.alloc(), false) == Answer::Found(ALL_TRUE));
-    assert_eq!(rt;
-        (probe.search.decisions(), probe.search.placements()),
-        (1, 262_144)
-    );
-    // The first atom, and not the last one.
-    probe.begin(rt.alloc(), &[1, 524_286])?;
-    assert!(rt; probe.next(rt.alloc(), false) == Answer::Core(bit(1) | bit(524_286), 2));
-    Ok(())
-}
-
-/// The literals of as many atoms as there can be, each with this value.
-fn longest(alloc: Global, value: bool) -> Result<Vec<u32>, NoMemory> {
-    let mut literals = Vec::new(alloc);
-    for atom in 0..MOST_ATOMS {
-        literals.push(2 * atom + u32::from(value))?;
-    }
-    Ok(literals)
-}
-
-// Not all atoms are true: that holds where all are false, and it is against the assumptions where all are true.
-#[test]
-fn takes_the_longest_clause(rt: HostRuntime) -> Result<(), Fail> {
-    let mut probe = Probe::new(rt.alloc(), MOST_ATOMS, u64::MAX)?;
-    // From the last atom on: literals that become false from the first one on would cost the square of the length.
-    let mut clause = longest(rt.alloc(), false)?;
-    clause.reverse();
-    probe.add(rt.alloc(), clause.as_slice())?;
-    let none = longest(rt.alloc(), false)?;
-    probe.begin(rt.alloc(), none.as_slice())?;
-    assert!(rt; probe.next(rt.alloc(), false) == Answer::Found(ALL_FALSE));
-    let all = longest(rt.alloc(), true)?;
-    probe.begin(rt.alloc(), all.as_slice())?;
-    assert!(rt; probe.next(rt.alloc(), false) == Answer::Core(ALL_TRUE, 262_144));
-    Ok(())
+    go_on(rt.alloc(), &mut probe)
 }

@@ -11,7 +11,7 @@ use std::alloc::Global;
 use std::process::Abort;
 
 /// Safety, and behind it the form of the constraint part.
-const ROWS: [(&str, &str); 67] = [
+const ROWS: [(&str, &str); 76] = [
     // Bound by positive atoms alone.
     ("%@exists", "ok"),
     ("%@exists p.", "ok"),
@@ -88,6 +88,13 @@ const ROWS: [(&str, &str); 67] = [
     ("%@exists :- _ < 7.", "unsafe _ 1"),
     ("%@exists {p : p(_)}.", "ok"),
     ("%@exists {p : not p(_)}.", "unsafe _ 1"),
+    // A minus belongs to the name, and bounds bind nothing.
+    ("%@exists -p(X) :- -q(X).", "ok"),
+    ("%@exists -p(X) :- not -q(X).", "unsafe X 1"),
+    ("%@exists -p(X).", "unsafe X 1"),
+    ("%@exists 1 {p(X) : -p(X)} 2.", "ok"),
+    ("%@exists 1 {p(X)} 2.", "unsafe X 1"),
+    ("%@exists {p(X)} 1 :- -p(X).", "ok"),
     // Rules are numbered through levels and the constraint part.
     ("%@exists p. p. %@exists p. p(X).", "unsafe X 4"),
     (
@@ -98,11 +105,14 @@ const ROWS: [(&str, &str); 67] = [
     // The form of the constraint part comes behind safety.
     ("%@exists p. %@constraint :- p. p.", "headed 3"),
     ("%@exists p. %@constraint {}.", "headed 2"),
+    ("%@exists p. %@constraint 1 {p} 1.", "headed 2"),
+    ("%@exists p. %@constraint :- p. -p.", "headed 3"),
+    ("%@exists p. %@constraint :- -p.", "ok"),
     ("%@exists p. %@constraint p. :- not p(X).", "unsafe X 3"),
 ];
 
 /// A first part, a second one, how often it stands, a last part, and the verdict on the text of them.
-const LIMITS: [(&str, &str, u32, &str, &str); 21] = [
+const LIMITS: [(&str, &str, u32, &str, &str); 24] = [
     ("", "%@exists ", 16, "", "ok"),
     ("", "%@exists ", 17, "", "Levels 17"),
     ("%@exists p(7", ",7", 15, ").", "ok"),
@@ -110,6 +120,7 @@ const LIMITS: [(&str, &str, u32, &str, &str); 21] = [
     ("%@exists :- p(7", ",7", 16, ").", "Arguments 17"),
     ("%@exists :- not p(7", ",7", 16, ").", "Arguments 17"),
     ("%@exists {p(7", ",7", 16, ")}.", "Arguments 17"),
+    ("%@exists -p(7", ",7", 16, ").", "Arguments 17"),
     ("%@exists {p : not p(7", ",7", 16, ")}.", "Arguments 17"),
     (
         "%@exists %@constraint :- p(7",
@@ -124,6 +135,8 @@ const LIMITS: [(&str, &str, u32, &str, &str); 21] = [
     ("%@exists {p : p", ", p", 62, "} :- p.", "Literals 65"),
     ("%@exists {p", "; p", 64, "}.", "Literals 65"),
     ("%@exists p", " | p", 64, ".", "Literals 65"),
+    ("%@exists 1 {p", "; p", 63, "} 1.", "ok"),
+    ("%@exists 1 {p", "; p", 64, "} 1.", "Literals 65"),
     (
         "%@exists :- p(A,B,C,D,E,F,G,H,I,J,K,L,M,N,O,P)",
         ", p(P)",

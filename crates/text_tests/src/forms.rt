@@ -86,14 +86,24 @@ fn write_elements(out: &mut String, elements: &[Element]) -> Result<(), NoMemory
     Ok(())
 }
 
-/// Writes a disjunction, or a choice in braces.
+/// Writes the bound of a choice, if there is one.
+fn write_bound(out: &mut String, bound: Option<i32>) -> Result<(), NoMemory> {
+    match bound {
+        Some(bound) => write!(out, "{bound}"),
+        None => Ok(()),
+    }
+}
+
+/// Writes a disjunction, or a choice in braces between its bounds.
 fn write_head(out: &mut String, head: &Head) -> Result<(), NoMemory> {
     match head {
         Head::Disj(atoms) => write_disjunction(out, atoms.as_slice()),
-        Head::Choice(elements) => {
+        Head::Choice(lower, elements, upper) => {
+            write_bound(out, *lower)?;
             out.push_str("{")?;
             write_elements(out, elements.as_slice())?;
-            out.push_str("}")
+            out.push_str("}")?;
+            write_bound(out, *upper)
         }
     }
 }

@@ -2,14 +2,14 @@
 ghost use Rattle.std.specs.Prelude.{◌<◌};
 
 use crate::texts::{program_of, repeated};
-use asp_defs::{Form, Kind, List, Name, NoMemory, Program, Unknown, Var, Which};
+use asp_defs::{Kind, List, Name, NoMemory, Program, Unknown, Var, Which};
 use asp_io::MemSink;
 use asp_print::{Line, print_line, print_program};
 use std::alloc::Global;
 use std::process::Abort;
 
 /// The lines without a name in them.
-const LINES: [(Line, &str); 24] = [
+const LINES: [(Line, &str); 22] = [
     (Line::Word(2), "aspq: word 2 refused\n"),
     (Line::BadByte(0), "aspq: bad byte at 0\n"),
     (Line::BadNumber(17), "aspq: bad number at 17\n"),
@@ -24,14 +24,6 @@ const LINES: [(Line, &str); 24] = [
     (
         Line::AfterConstraint(22),
         "aspq: after the constraint part at 22\n",
-    ),
-    (
-        Line::NotYet(9, Form::Strong),
-        "aspq: not yet: strong negation at 9\n",
-    ),
-    (
-        Line::NotYet(99, Form::Bounds),
-        "aspq: not yet: choice bounds at 99\n",
     ),
     (
         Line::Unexpected(u32::MAX),
@@ -194,10 +186,22 @@ const CANONICAL: &str = "%@exists\n\
     :- .\n";
 
 /// Texts and their canonical texts.
-const PROGRAMS: [(&str, &str); 4] = [
+const PROGRAMS: [(&str, &str); 7] = [
     ("%@forall", "%@forall\n"),
     ("%@exists a.", "%@exists\na.\n"),
     ("%@exists a.%@constraint", "%@exists\na.\n"),
+    (
+        "%@exists - a:-not -b,-c( X ),-2<X. {-d: -e;f}.%@constraint:--a.",
+        "%@exists\n-a :- not -b, -c(X), -2 < X.\n{-d : -e; f}.\n%@constraint\n:- -a.\n",
+    ),
+    (
+        "%@exists 1{a;b:c}2:-d. -0{a}. {a}007.",
+        "%@exists\n1 {a; b : c} 2 :- d.\n0 {a}.\n{a} 7.\n",
+    ),
+    (
+        "%@forall -2147483648{}2147483647. 2{-p(-1)}1.",
+        "%@forall\n-2147483648 {} 2147483647.\n2 {-p(-1)} 1.\n",
+    ),
     (EVERY_FORM, CANONICAL),
 ];
 

@@ -135,32 +135,119 @@ const BEGINNINGS: [(&str, &str); 24] = [
     ),
 ];
 
-/// Forms that are not read yet.
-const NOT_YET: [(&str, &str); 24] = [
-    ("%@exists\n-a.\n", "strong negation at 9"),
-    ("%@exists -", "strong negation at 9"),
-    ("%@exists - a.", "strong negation at 9"),
-    ("%@exists a. -b. c.", "strong negation at 12"),
-    ("%@exists a | -b.", "strong negation at 13"),
-    ("%@exists a ; -b.", "strong negation at 13"),
-    ("%@exists a :- -b.", "strong negation at 14"),
-    ("%@exists a :- b, -c.", "strong negation at 17"),
-    ("%@exists a :- not -b.", "strong negation at 18"),
-    ("%@exists {-a}.", "strong negation at 10"),
-    ("%@exists {a ; -b}.", "strong negation at 14"),
-    ("%@exists {a : -b}.", "strong negation at 14"),
-    ("%@exists {a : b, -", "strong negation at 17"),
-    ("%@exists %@constraint -a.", "strong negation at 22"),
-    ("%@exists a :- b(c),-d.", "strong negation at 19"),
-    ("%@exists\n1 {a} 1.\n", "choice bounds at 9"),
-    ("%@exists 1", "choice bounds at 9"),
-    ("%@exists -1 {a}.", "choice bounds at 9"),
-    ("%@exists {a} 1.", "choice bounds at 13"),
-    ("%@exists {a} 2", "choice bounds at 13"),
-    ("%@exists {} 2.", "choice bounds at 12"),
-    ("%@exists a. 1 {b}.", "choice bounds at 12"),
-    ("%@exists {a : 1 = X} 3.", "choice bounds at 21"),
-    ("%@exists %@constraint 1.", "choice bounds at 22"),
+/// Texts with a minus before names, and their programs.
+const NEGATED: [(&str, &str); 22] = [
+    ("%@exists\n-a.\n", "E-a <- .C"),
+    ("%@exists - a.", "E-a <- .C"),
+    ("%@exists -\n\ta().", "E-a <- .C"),
+    ("%@exists -%* b *%a.", "E-a <- .C"),
+    ("%@exists a. -b. c.", "Ea <- .-b <- .c <- .C"),
+    ("%@exists a | -b.", "Ea|-b <- .C"),
+    ("%@exists -a ; -b ; c.", "E-a|-b|c <- .C"),
+    ("%@exists a :- -b.", "Ea <- -b.C"),
+    ("%@exists -a:--b.", "E-a <- -b.C"),
+    ("%@exists a :- b, -c.", "Ea <- b,-c.C"),
+    ("%@exists a :- not -b.", "Ea <- not -b.C"),
+    ("%@exists a :- not - b, - c.", "Ea <- not -b,-c.C"),
+    ("%@exists a :- b(c),-d.", "Ea <- b(c),-d.C"),
+    ("%@exists a :- -b(-1), -2 = X.", "Ea <- -b(-1),-2=X.C"),
+    (
+        "%@exists a :- -b(X,_,c), X < -2.",
+        "Ea <- -b(X,_1,c),X<-2.C",
+    ),
+    ("%@exists {-a}.", "E{-a:;} <- .C"),
+    ("%@exists {a ; -b}.", "E{a:;-b:;} <- .C"),
+    ("%@exists {a : -b}.", "E{a:-b;} <- .C"),
+    ("%@exists {a : b, not -c}.", "E{a:b,not -c;} <- .C"),
+    ("%@exists -p(1..3,X,-2).", "E-p(1..3,X,-2) <- .C"),
+    ("%@exists -p(_) | -q(_).", "E-p(_1)|-q(_2) <- .C"),
+    ("%@exists %@constraint -a. :- -a.", "EC-a <- . <- -a."),
+];
+
+/// Texts with bounds of choices, and their programs.
+const BOUNDED: [(&str, &str); 17] = [
+    ("%@exists\n1 {a} 1.\n", "E1{a:;}1 <- .C"),
+    ("%@exists 2{a}1.", "E2{a:;}1 <- .C"),
+    ("%@exists -1 {a}.", "E-1{a:;} <- .C"),
+    ("%@exists {a} 1.", "E{a:;}1 <- .C"),
+    ("%@exists {a}-1.", "E{a:;}-1 <- .C"),
+    ("%@exists {} 2.", "E{}2 <- .C"),
+    ("%@exists 0 {}.", "E0{} <- .C"),
+    ("%@exists -007 {} 00 :- .", "E-7{}0 <- .C"),
+    (
+        "%@exists 2147483647 {a} -2147483648.",
+        "E2147483647{a:;}-2147483648 <- .C",
+    ),
+    ("%@exists a. 1 {b}.", "Ea <- .1{b:;} <- .C"),
+    (
+        "%@exists {a} 1. 2 {b}. {c}. 3 {d} 4.",
+        "E{a:;}1 <- .2{b:;} <- .{c:;} <- .3{d:;}4 <- .C",
+    ),
+    ("%@exists 1 {a;b} 2 :- c.", "E1{a:;b:;}2 <- c.C"),
+    ("%@exists 1 {a} :- not b.", "E1{a:;} <- not b.C"),
+    ("%@exists {a : 1 = X} 3.", "E{a:1=X;}3 <- .C"),
+    (
+        "%@exists 1{-a : -b; c}1 :- not -d.",
+        "E1{-a:-b;c:;}1 <- not -d.C",
+    ),
+    ("%@forall 1 {p(_)} 2 :- q(_).", "A1{p(_1):;}2 <- q(_2).C"),
+    ("%@exists %@constraint 1 {a}.", "EC1{a:;} <- ."),
+];
+
+/// A number at the beginning of a statement that no choice follows, further numbers, and bounds that are no numbers.
+const BOUNDS: [(&str, &str); 25] = [
+    ("%@exists 1 a.", "unexpected at 11"),
+    ("%@exists a. 2 b.", "unexpected at 14"),
+    ("%@exists 1 -a.", "unexpected at 11"),
+    ("%@exists 1.", "unexpected at 10"),
+    ("%@exists -5.", "unexpected at 11"),
+    ("%@exists -5 :- a.", "unexpected at 12"),
+    ("%@exists 1 %@forall", "unexpected at 11"),
+    ("%@exists %@constraint 1.", "unexpected at 23"),
+    ("%@exists 1 2 {a}.", "unexpected at 11"),
+    ("%@exists 1 -2{a}.", "unexpected at 11"),
+    ("%@exists a. 3 3 {b}.", "unexpected at 14"),
+    ("%@exists {a} 1 2.", "unexpected at 15"),
+    ("%@exists 1 {a} 1 -1.", "unexpected at 17"),
+    ("%@exists {} 1 1 :- a.", "unexpected at 14"),
+    ("%@exists {a} 1 | b.", "unexpected at 15"),
+    ("%@exists n {a}.", "unexpected at 11"),
+    ("%@exists {a} n.", "unexpected at 13"),
+    ("%@exists 1 {a} n :- b.", "unexpected at 15"),
+    ("%@exists X {a}.", "unexpected at 9"),
+    ("%@exists {a} X.", "unexpected at 13"),
+    ("%@exists 1..2 {a}.", "unexpected at 10"),
+    ("%@exists {a} 1..2.", "unexpected at 14"),
+    ("%@exists - 1 {a}.", "unexpected at 11"),
+    ("%@exists {a} - 1.", "unexpected at 13"),
+    ("%@exists a :- 1 {b}.", "unexpected at 16"),
+];
+
+/// A minus that no name follows, and one whose name isn't that of an atom.
+const MINUSES: [(&str, &str); 23] = [
+    ("%@exists - 5.", "unexpected at 11"),
+    ("%@exists --5.", "unexpected at 10"),
+    ("%@exists a :- - 5 = X.", "unexpected at 16"),
+    ("%@exists {a : - 1 = X}.", "unexpected at 16"),
+    ("%@exists -X.", "unexpected at 10"),
+    ("%@exists a :- -X = 1.", "unexpected at 15"),
+    ("%@exists {-X}.", "unexpected at 11"),
+    ("%@exists -_.", "unexpected at 10"),
+    ("%@exists -(a).", "unexpected at 10"),
+    ("%@exists a :- -(b).", "unexpected at 15"),
+    ("%@exists a | -(b).", "unexpected at 14"),
+    ("%@exists --a.", "unexpected at 10"),
+    ("%@exists a :- --b.", "unexpected at 15"),
+    ("%@exists {a; --b}.", "unexpected at 14"),
+    ("%@exists a :- -not b.", "unexpected at 15"),
+    ("%@exists -{a}.", "unexpected at 10"),
+    ("%@exists -.", "unexpected at 10"),
+    ("%@exists a :- -b = c.", "unexpected at 17"),
+    ("%@exists a :- -b(c) = d.", "unexpected at 20"),
+    ("%@exists {a : -b != c}.", "unexpected at 17"),
+    ("%@exists a :- b < -c.", "unexpected at 18"),
+    ("%@exists -p(1..2) :- q.", "unexpected at 18"),
+    ("%@exists -p(-a).", "unexpected at 12"),
 ];
 
 /// Tokens that continue no head.
@@ -262,7 +349,7 @@ const LEXICAL: [(&str, &str); 5] = [
 ];
 
 /// Texts that end within a statement.
-const UNFINISHED: [&str; 27] = [
+const UNFINISHED: [&str; 35] = [
     "%@exists a |",
     "%@exists a | b",
     "%@exists a(",
@@ -281,6 +368,14 @@ const UNFINISHED: [&str; 27] = [
     "%@exists {}",
     "%@exists {a",
     "%@exists {a;",
+    "%@exists -",
+    "%@exists -a",
+    "%@exists -a(",
+    "%@exists {a : b, -",
+    "%@exists 1",
+    "%@exists 1 {",
+    "%@exists {a} 2",
+    "%@exists 1 {a} 2 :-",
     "%@exists {a:",
     "%@exists {a:b",
     "%@exists {a:b} :- c",
@@ -321,8 +416,15 @@ fn refuses_beginnings_and_directives(rt: HostRuntime) -> Result<(), NoMemory> {
 }
 
 #[test]
-fn refuses_forms_that_are_not_read_yet(rt: HostRuntime) -> Result<(), NoMemory> {
-    read_rows(&rt, rt.alloc(), &NOT_YET)
+fn reads_negated_atoms_and_bounds(rt: HostRuntime) -> Result<(), NoMemory> {
+    read_rows(&rt, rt.alloc(), &NEGATED)?;
+    read_rows(&rt, rt.alloc(), &BOUNDED)
+}
+
+#[test]
+fn refuses_bounds_and_minuses(rt: HostRuntime) -> Result<(), NoMemory> {
+    read_rows(&rt, rt.alloc(), &BOUNDS)?;
+    read_rows(&rt, rt.alloc(), &MINUSES)
 }
 
 #[test]

@@ -3,7 +3,7 @@
 ghost use Rattle.std.specs.Prelude.{IfOk};
 ghost use Rattle.asp_check.specs.Condition.{IsCheckable};
 
-use asp_defs::{Form, Name, NoMemory, Program, TextFault};
+use asp_defs::{Name, NoMemory, Program, TextFault};
 use asp_read::read;
 use std::alloc::Global;
 use std::process::Abort;
@@ -45,13 +45,9 @@ pub fn program_of(alloc: Global, text: &[u8]) -> Result<Program, TextFault>
     Ok(program)
 }
 
-/// The words of a refusal, with the form that is not read yet.
+/// The words of a refusal.
 pub fn told(alloc: Global, fault: &TextFault) -> Result<String, NoMemory> {
-    match fault {
-        TextFault::NotYet(at, Form::Strong) => format!(in alloc; "strong negation at {at}"),
-        TextFault::NotYet(at, Form::Bounds) => format!(in alloc; "choice bounds at {at}"),
-        other => format!(in alloc; "{other}"),
-    }
+    format!(in alloc; "{fault}")
 }
 
 /// A name as a string.

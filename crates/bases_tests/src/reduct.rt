@@ -3,12 +3,12 @@ ghost use Rattle.std.specs.Prelude.{◌≡◌};
 ghost use Rattle.std.specs.List.{list_all};
 ghost use Rattle.asp_reduct.specs.Bounds.{are_below, is_rule_below};
 
+use crate::rows::expect;
 use crate::texts::game;
 use asp_bits::Bits;
 use asp_defs::{Game, GroundRule, NoMemory};
 use asp_reduct::{body_true, reduct, satisfies};
 use std::alloc::Global;
-use std::process::Abort;
 use std::test::Fail;
 
 /// The interpretation in which a and b are true and c is not.
@@ -60,30 +60,34 @@ const JUDGED: [(&str, bool, bool); 10] = [
     ("%@exists {a; b; c}. %@exists {c} :- c, not a.", false, true),
 ];
 
-/// Judges the one rule of a text's second level.
-fn judged(alloc: Global, text: &str) -> Result<Option<(bool, bool)>, Fail> {
-    let game = game(alloc, text)?;
-    let set = interpretation(alloc)?;
-    match second_level(&game) {
-        [rule] if is_in(rule, set.len()) => Ok(Some((
-            body_true(rule, &set),
-            satisfies(rule, &set),
-        ))),
-        _ => Ok(None),
+/// Whether the one rule of a game's second level is judged so.
+fn is_judged(game: &Game, set: &Bits, truth: bool, satisfied: bool) -> bool {
+    match second_level(game) {
+        [rule] if is_in(rule, set.len()) => {
+            body_true(rule, set) == truth && satisfies(rule, set) == satisfied
+        }
+        _ => false,
     }
 }
 
-fn judge_rows(rt: &impl Abort, alloc: Global, rows: &[(&str, bool, bool)]) -> Result<(), Fail> {
+fn is_judged_text(alloc: Global, text: &str, set: &Bits, truth: bool, satisfied: bool) -> bool {
+    match game(alloc, text) {
+        Some(game) => is_judged(&game, set, truth, satisfied),
+        None => false,
+    }
+}
+
+fn judge_rows(alloc: Global, set: &Bits, rows: &[(&str, bool, bool)]) -> Result<(), Fail> {
     for (text, truth, satisfied) in rows {
-        let judged = judged(alloc, text)?;
-        assert_eq!(rt; judged, Some((*truth, *satisfied)), "{text}");
+        expect(is_judged_text(alloc, text, set, *truth, *satisfied), text)?;
     }
     Ok(())
 }
 
 #[test]
 fn judges_rules(rt: HostRuntime) -> Result<(), Fail> {
-    judge_rows(&rt, rt.alloc(), &JUDGED)
+    let set = interpretation(rt.alloc())?;
+    judge_rows(rt.alloc(), &set, &JUDGED)
 }
 
 fn are_all_in(rules: &[GroundRule], count: u32) -> bool
@@ -92,24 +96,53 @@ fn are_all_in(rules: &[GroundRule], count: u32) -> bool
     rules.iter().all(|rule| is_in(rule, count))
 }
 
-/// The second level's reduct is `a.`, `b :- a.` and `:- c.`
-const REDUCED: &str = "%@exists {a; b; c}. %@exists
+/// A program, and its second level's reduct: the rules, their heads and their bodies.
+const TO_REDUCE: &str = "%@exists {a; b; c}. %@exists
     a :- not c. b :- not a. {b} :- a, not c. {c}. :- c, not b. :- c.";
+
+const REDUCED: [(&str, &[u32], &[u32]); 3] = [
+    ("a.", &[0], &[]),
+    ("b :- a.", &[1], &[0]),
+    (":- c.", &[], &[2]),
+];
+
+/// Whether the rule is no choice, has no negative body, and has this head and body.
+fn is_part(part: Option<&GroundRule>, head: &[u32], pos: &[u32]) -> bool {
+    match part {
+        Some(rule) => {
+            !rule.choice
+                && rule.neg.is_empty()
+                && rule.head.as_slice() == head
+                && rule.pos.as_slice() == pos
+        }
+        None => false,
+    }
+}
+
+fn part_rows(parts: &[GroundRule], rows: &[(&str, &[u32], &[u32])]) -> Result<(), Fail> {
+    for (place, (row, head, pos)) in rows.iter().enumerate() {
+        expect(is_part(parts.get(place), head, pos), row)?;
+    }
+    Ok(())
+}
+
+/// Reduces the second level's rules, and compares what stays with the rows.
+fn reduce(alloc: Global, rules: &[GroundRule], set: &Bits) -> Result<(), Fail> {
+    if rules.len() != 6 || !are_all_in(rules, set.len()) {
+        return Err(Fail::new(TO_REDUCE));
+    }
+    let parts = reduct(alloc, rules, set)?;
+    if parts.len() != 3 {
+        return Err(Fail::new("three rules stay"));
+    }
+    part_rows(parts.as_slice(), &REDUCED)
+}
 
 #[test]
 fn keeps_what_the_set_allows(rt: HostRuntime) -> Result<(), Fail> {
-    let game = game(rt.alloc(), REDUCED)?;
-    let rules = second_level(&game);
     let set = interpretation(rt.alloc())?;
-    assert_eq!(rt; rules.len(), 6);
-    assert!(rt; are_all_in(rules, set.len()));
-    let parts = reduct(rt.alloc(), rules, &set)?;
-    let expected: [(&[u32], &[u32]); 3] = [(&[0], &[]), (&[1], &[0]), (&[], &[2])];
-    assert_eq!(rt; parts.len(), 3);
-    for (part, (head, pos)) in parts.as_slice().iter().zip(expected.iter()) {
-        assert!(rt; !part.choice && part.neg.is_empty());
-        assert_eq!(rt; part.head.as_slice(), *head);
-        assert_eq!(rt; part.pos.as_slice(), *pos);
+    match game(rt.alloc(), TO_REDUCE) {
+        Some(game) => reduce(rt.alloc(), second_level(&game), &set),
+        None => Err(Fail::new(TO_REDUCE)),
     }
-    Ok(())
 }

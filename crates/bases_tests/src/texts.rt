@@ -1,5 +1,6 @@
-//! The program, the bases and the game of a text, and how atoms and numbers are written.
-ghost use Rattle.std.specs.Prelude.{IfOk};
+//! The program and the game of a text, and how atoms and numbers are written. There is none where the text is refused, and
+//! a row that needs one fails then by its name.
+ghost use Rattle.std.specs.Prelude.{IfSome};
 ghost use Rattle.asp_defs.specs.Games.{IsValid};
 
 use asp_atoms::bases;
@@ -9,25 +10,28 @@ use asp_ground::ground;
 use asp_read::read;
 use std::alloc::{AllocError, Global};
 use std::fmt::Write;
-use std::test::Fail;
 
-/// The program of a text, which passes the checks.
-pub fn checked(alloc: Global, text: &str) -> Result<Checked, Fail> {
+/// The program of a text that passes the checks.
+pub fn checked(alloc: Global, text: &str) -> Option<Checked> {
     let bytes = text.as_bytes();
     if bytes.len() > 1_048_576 {
-        return Err(Fail::new("the text is too long"));
+        return None;
     }
-    let program = read(alloc, bytes)?;
-    Ok(check(alloc, program)?)
+    let Ok(program) = read(alloc, bytes) else {
+        return None;
+    };
+    check(alloc, program).ok()
 }
 
 /// The game of a text.
-pub fn game(alloc: Global, text: &str) -> Result<Game, Fail>
-    ensures { IfOk result IsValid }
+pub fn game(alloc: Global, text: &str) -> Option<Game>
+    ensures { IfSome result IsValid }
 {
     let checked = checked(alloc, text)?;
-    let bases = bases(alloc, &checked)?;
-    Ok(ground(alloc, &checked, bases)?)
+    let Ok(bases) = bases(alloc, &checked) else {
+        return None;
+    };
+    ground(alloc, &checked, bases).ok()
 }
 
 fn put_name(text: &mut String, name: &Name) -> Result<(), AllocError> {
