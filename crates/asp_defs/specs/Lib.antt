@@ -21,7 +21,6 @@ pub mod History
 pub mod Machine
 pub mod Unknowns
 pub mod Examples
-pub mod BoundExamples
 pub mod Safety
 pub mod ConstraintPart
 pub mod Limits

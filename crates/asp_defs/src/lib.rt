@@ -5,9 +5,6 @@
 //! numbered atoms), `faults` (why a text is refused).
 #![tactic(auto)]
 
-pub mod examples;
-pub mod examples_bounds;
-pub mod examples_text;
 mod faults;
 mod ground;
 pub mod laws;

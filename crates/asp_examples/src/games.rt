@@ -18,7 +18,7 @@ ghost use Rattle.asp_defs.specs.Machine.{start, may_run, run, Look, Fork, Add, E
 ghost use Rattle.asp_defs.specs.Unknowns.{enough_cells, is_possible};
 ghost use Rattle.asp_defs.specs.Words.{SolveTask, ListTask, CheckTask};
 ghost use Rattle.asp_defs.specs.Sets.{MoreEnd, LastEnd, UnknownEnd};
-ghost use Rattle.asp_defs.specs.Shown.{shows_unknown, shows_verdict, shows_set, VerdictClaim, OpenClaim, PageClaim, shows, ending_of};
+ghost use Rattle.asp_defs.specs.Shown.{shows_unknown, shows_verdict, shows_set, VerdictClaim, OpenClaim, PageClaim, shows, ending_of, page_end_code};
 ghost use Rattle.asp_defs.specs.Examples as ex;
 
 /// A choice may take the atom that a constraint asks for.
@@ -303,4 +303,12 @@ pub fn what_commands_claim()
     ensures page { map (ending_of (ListTask ex.tuning 1 None) (ex.evidence ex.duel_won 9)) (PageClaim ((0 ∷ []) ∷ []) MoreEnd ∷ PageClaim [] LastEnd ∷ VerdictClaim true ∷ []) ≡ Some (record { code = 10; output = codes "COHERENT\n{a}\nMORE\n" }) ∷ Some (record { code = 20; output = codes "INCOHERENT\nEND\n" }) ∷ None ∷ [] }
     ensures behind { ending_of (ListTask ex.tuning 1 (Some (codes "{a}"))) (ex.evidence ex.duel_won 9) (PageClaim [] LastEnd) ≡ Some (record { code = 0; output = codes "END\n" }) }
     ensures check { ending_of CheckTask (ex.evidence ex.duel_won 9) (VerdictClaim true) ≡ None }
+{}
+
+/// An open answer ends with code 30, in place of a verdict, and behind the sets of a page wherever the page begins.
+pub fn open_answers_end_with_thirty()
+    ensures verdict { ending_of (SolveTask ex.tuning false) (ex.evidence ex.duel_won 9) (OpenClaim (ex.unknown Search 1 2)) ≡ Some (record { code = 30; output = codes "UNKNOWN search 1 2\n" }) }
+    ensures page { ending_of (ListTask ex.tuning 1 None) (ex.evidence ex.duel_won 9) (PageClaim ((0 ∷ []) ∷ []) (UnknownEnd (ex.unknown Search 1 2))) ≡ Some (record { code = 30; output = codes "COHERENT\n{a}\nUNKNOWN search 1 2\n" }) }
+    ensures codes_of_pages { map (λ from_start. page_end_code from_start [] (UnknownEnd (ex.unknown Search 1 2))) (true ∷ false ∷ []) ≡ 30 ∷ 30 ∷ [] }
+    ensures claimed_by_list { ending_of (ListTask ex.tuning 1 None) (ex.evidence ex.duel_won 9) (OpenClaim (ex.unknown Search 1 2)) ≡ None }
 {}

@@ -1,6 +1,6 @@
 use Rattle.std.specs.Prelude.{refl}
 use Rattle.std.specs.Fmt.{digits}
-use Rattle.asp_defs.proofs.examples_text.canonical_texts.Goals as goal
+use Rattle.asp_examples.proofs.texts.canonical_texts.Goals as goal
 
 pub returns-clause-strong : goal.returns-clause-strong
 unfolding digits

@@ -1,6 +1,6 @@
 use Rattle.std.specs.Prelude.{refl}
 use Rattle.std.specs.Fmt.{digits}
-use Rattle.asp_defs.proofs.examples_text.logs.Goals as goal
+use Rattle.asp_examples.proofs.texts.logs.Goals as goal
 
 pub returns-clause-won : goal.returns-clause-won
 unfolding digits

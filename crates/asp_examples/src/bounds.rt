@@ -11,7 +11,7 @@ ghost use Rattle.asp_defs.specs.Values.{moves, is_coherent, quantified_answer_se
 ghost use Rattle.asp_defs.specs.Entries.{stands_in_bounds, stands_at, stands_from};
 ghost use Rattle.asp_defs.specs.History.{is_legal};
 ghost use Rattle.asp_defs.specs.Examples as ex;
-ghost use Rattle.asp_defs.specs.BoundExamples as bounds;
+ghost use Rattle.asp_examples.specs.BoundExamples as bounds;
 
 /// A bound is met from its lower number up to its upper one, both included, and everywhere where its body is false.
 pub fn bounds_from_both_sides()

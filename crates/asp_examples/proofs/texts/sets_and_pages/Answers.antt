@@ -1,6 +1,6 @@
 use Rattle.std.specs.Prelude.{refl}
 use Rattle.std.specs.Fmt.{digits}
-use Rattle.asp_defs.proofs.examples_text.sets_and_pages.Goals as goal
+use Rattle.asp_examples.proofs.texts.sets_and_pages.Goals as goal
 
 pub returns-clause-set : goal.returns-clause-set
 unfolding digits

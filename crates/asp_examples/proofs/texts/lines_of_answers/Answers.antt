@@ -1,6 +1,6 @@
 use Rattle.std.specs.Prelude.{refl}
 use Rattle.std.specs.Fmt.{digits}
-use Rattle.asp_defs.proofs.examples_text.lines_of_answers.Goals as goal
+use Rattle.asp_examples.proofs.texts.lines_of_answers.Goals as goal
 
 pub returns-clause-word : goal.returns-clause-word
 unfolding digits

@@ -1,6 +1,6 @@
 use Rattle.std.specs.Prelude.{refl}
 use Rattle.std.specs.Fmt.{digits}
-use Rattle.asp_defs.proofs.examples_text.demo_texts.Goals as goal
+use Rattle.asp_examples.proofs.texts.demo_texts.Goals as goal
 
 pub returns-clause-three : goal.returns-clause-three
 unfolding digits
