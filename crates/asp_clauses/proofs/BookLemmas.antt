@@ -1,17 +1,17 @@
 -- The book as watches and kinds.
-use Rattle.std.proofs.Common.{◌≡◌, ℕ, ◌<◌, ◌≤◌, Bool, true, List, [], length, map, refl, sym, ◌∙◌, ap, arith, subst, Option, Some, None, option_map}
+use Rattle.std.proofs.Common.{◌≡◌, ℕ, ◌^◌, ◌<◌, ◌≤◌, Bool, true, List, [], length, map, refl, sym, ◌∙◌, ap, arith, subst, Option, Some, None, option_map}
 use Rattle.std.proofs.lemmas.List.{length-map, get_or-map, same_lists}
 use Rattle.asp_clauses.specs.declared.kind.Kind.{Kind}
 use Rattle.asp_clauses.specs.declared.trail.Step.{Step}
 use Rattle.asp_clauses.specs.declared.watches.Watches.{Watches}
-use Rattle.asp_clauses.specs.Records.{literals_of}
+use Rattle.asp_clauses.specs.Records.{literals_of, end}
 use Rattle.asp_clauses.specs.Trail.{TrailState, step_at}
 use Rattle.asp_clauses.specs.Book.{BookState, Goes}
 use Rattle.asp_clauses.specs.Watches.{book_of}
 use Rattle.asp_clauses.specs.Visits.{IsStopped}
 use Rattle.asp_clauses.specs.Kept.{kept, new_number, mark_of, is_kept, number_in, renamed, renumbered, relabelled, IsReason, AreNumbered, MarksReasons}
 use Rattle.asp_clauses.proofs.RenamedLemmas.{Removes, Goes-removed}
-use Rattle.asp_clauses.proofs.KeptLemmas.{length-kept}
+use Rattle.asp_clauses.proofs.KeptLemmas.{length-kept, new_number-le}
 use Rattle.asp_clauses.proofs.NumberedLemmas.{labels_tell, number_of_kept}
 
 -- kinds don't matter to a trail
@@ -99,3 +99,14 @@ marked_reasons steps old new m clause r = m.reasons r.0 clause r.1 r.2
 
 pub marks_many : (watches : Watches) (kinds : List Kind) (book : BookState) (first second third : List Bool) → (let b : BookState = record (book_of watches) { kinds = kinds } in b) ≡ book → length first ≡ length book.clauses → length second ≡ length first → length third ≡ length second → length third ≡ length watches.records
 marks_many watches kinds book first second third e a b c = c ∙ b ∙ a ∙ sym (ap (λ (x : BookState). length x.clauses) e) ∙ length-map watches.records literals_of
+
+-- numbers of clauses are below the one that stands for no clause
+pub numbers_small : (watches : Watches) (kinds : List Kind) (book : BookState) → (let b : BookState = record (book_of watches) { kinds = kinds } in b) ≡ book → length watches.records < 2 ^ 32 → length book.clauses ≤ end
+numbers_small watches kinds book e few = let l = ap (λ (b : BookState). length b.clauses) e in let m = length-map watches.records literals_of in omega (arith, l, m, few)
+
+-- a new number is, too
+pub new_number_small : (old numbered : Watches) (marks : List Bool) (clause : ℕ) → AreNumbered old numbered marks (length old.records) → clause < length old.records → mark_of marks clause ≡ true → number_in numbered.records clause < end
+new_number_small old numbered marks clause a h m =
+    let n = number_of_kept old numbered marks clause a h m in let l = new_number-le marks clause in
+    let few = a.store.few in let many = a.as_many in
+    omega (arith, n, l, few, many, h)

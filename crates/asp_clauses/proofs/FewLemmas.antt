@@ -7,11 +7,13 @@ use Rattle.std.proofs.Common.{Option}
 use Rattle.std.proofs.lemmas.Bool.Decides.{nat_tests}
 use Rattle.std.proofs.lemmas.Map.Steps.{length-le_from_distinct_below}
 use Rattle.std.proofs.lemmas.Map.Keys.{IsDistinct-from_apart}
+use Rattle.asp_clauses.specs.declared.trail.Truth.{Truth}
+use Rattle.asp_clauses.specs.declared.trail.Truth.TheVariants.{Unassigned, Holds, Fails}
 use Rattle.asp_clauses.specs.declared.trail.Step.{Step}
 use Rattle.asp_clauses.specs.Trail.{no_step, literal_at, IsUnassigned, IsPlaced, IsValue}
 use Rattle.asp_clauses.specs.Literal.{negated}
 use Rattle.asp_clauses.proofs.LiteralLemmas.{negated-half, negated-≢}
-use Rattle.asp_clauses.specs.Tables.{Tells, AreTables}
+use Rattle.asp_clauses.specs.Tables.{Tells, AreTables, told}
 use Rattle.asp_clauses.proofs.TableLemmas.{value_read, not_origin}
 use Rattle.std.proofs.Common.{Some, None}
 
@@ -64,7 +66,7 @@ steps_few atoms steps codes distinct =
     omega (arith, few, len)
 
 -- no atom twice, as the tables show
-pub tables_distinct : (atoms : ℕ) (steps : List Step) (truths : List (Option Bool)) (places depths : List ℕ) → AreTables atoms steps truths places depths → (p q : ℕ) → p < q → q < length steps → literal_at steps p / 2 ≢ literal_at steps q / 2
+pub tables_distinct : (atoms : ℕ) (steps : List Step) (truths : List Truth) (places depths : List ℕ) → AreTables atoms steps truths places depths → (p q : ℕ) → p < q → q < length steps → literal_at steps p / 2 ≢ literal_at steps q / 2
 tables_distinct atoms steps truths places depths t p q pq h e =
     let a = t.positions p (omega arith) in let b = t.positions q h in
     let same = ap (λ (x : ℕ). get_or places x 0) e in
@@ -84,37 +86,43 @@ pub not_placed : (steps : List Step) (literal other : ℕ) → IsUnassigned step
 not_placed steps literal other u e p = u p.0 p.1 (ap (λ (x : ℕ). x / 2) p.2 ∙ e)
 
 -- a literal whose value isn't false has no false literal in the trail
-pub stands_read : (atoms : ℕ) (steps now : List Step) (truths : List (Option Bool)) (places depths : List ℕ) (code : ℕ) (r : Option Bool) → AreTables atoms steps truths places depths → steps ≡ now → length truths ≡ 2 * atoms + 1 → code ≤ 2 * atoms → r ≡ get_or truths code r → (r ≡ Some false → ⊥) → IsPlaced now (negated code) → ⊥
+pub stands_read : (atoms : ℕ) (steps now : List Step) (truths : List Truth) (places depths : List ℕ) (code : ℕ) (r : Truth) → AreTables atoms steps truths places depths → steps ≡ now → length truths ≡ 2 * atoms + 1 → code ≤ 2 * atoms → r ≡ get_or truths code r → (r ≡ Fails → ⊥) → IsPlaced now (negated code) → ⊥
 stands_read atoms steps now truths places depths code r t e l h read no_false =
     let lt = not_origin atoms steps truths places depths code r t l h read no_false in
     let d = tables_distinct atoms steps truths places depths t in
     go r (value_read atoms steps now truths places depths code r t e l lt read) (subst (λ (x : List Step). (p q : ℕ) → p < q → q < length x → literal_at x p / 2 ≢ literal_at x q / 2) e d) no_false
   where
-    go : (r : Option Bool) → Tells now code r → ((p q : ℕ) → p < q → q < length now → literal_at now p / 2 ≢ literal_at now q / 2) → (r ≡ Some false → ⊥) → IsPlaced now (negated code) → ⊥
-    go None v d n = not_placed now code (negated code) (v.unassigned refl) (negated-half code)
-    go (Some true) v d n = not_both now code d (v.holds refl)
-    go (Some false) v d n = λ p. n refl
+    go : (r : Truth) → Tells now code r → ((p q : ℕ) → p < q → q < length now → literal_at now p / 2 ≢ literal_at now q / 2) → (r ≡ Fails → ⊥) → IsPlaced now (negated code) → ⊥
+    go Unassigned v d n = not_placed now code (negated code) (v.unassigned refl) (negated-half code)
+    go Holds v d n = not_both now code d (v.holds refl)
+    go Fails v d n = λ p. n refl
+
+none_some : (b : Bool) → (let none : Option Bool = None in none) ≡ Some b → ⊥
+none_some b e = cc
+
+true_false : (let yes : Option Bool = Some true in yes) ≡ Some false → ⊥
+true_false e = cc
 
 -- no two values tell the same: a value is none exactly where the atom is unassigned
-value_tells : (steps : List Step) (literal : ℕ) (r : Option Bool) → ((p q : ℕ) → p < q → q < length steps → literal_at steps p / 2 ≢ literal_at steps q / 2) → Tells steps literal r → IsValue steps literal r
-value_tells steps literal None d v = record {
-  unassigned = (v.unassigned, λ u. refl);
-  holds = (v.holds, λ p. absurd (not_placed steps literal literal (v.unassigned refl) refl p));
-  fails = (v.fails, λ p. absurd (not_placed steps literal (negated literal) (v.unassigned refl) (negated-half literal) p));
+value_tells : (steps : List Step) (literal : ℕ) (r : Truth) → ((p q : ℕ) → p < q → q < length steps → literal_at steps p / 2 ≢ literal_at steps q / 2) → Tells steps literal r → IsValue steps literal (told r)
+value_tells steps literal Unassigned d v = record {
+  unassigned = (λ e. v.unassigned refl, λ u. refl);
+  holds = (λ e. absurd (none_some true e), λ p. absurd (not_placed steps literal literal (v.unassigned refl) refl p));
+  fails = (λ e. absurd (none_some false e), λ p. absurd (not_placed steps literal (negated literal) (v.unassigned refl) (negated-half literal) p));
 }
-value_tells steps literal (Some true) d v = record {
-  unassigned = (v.unassigned, λ u. absurd (not_placed steps literal literal u refl (v.holds refl)));
-  holds = (v.holds, λ p. refl);
-  fails = (v.fails, λ p. absurd (not_both steps literal d (v.holds refl) p));
+value_tells steps literal Holds d v = record {
+  unassigned = (λ e. absurd (none_some true (sym e)), λ u. absurd (not_placed steps literal literal u refl (v.holds refl)));
+  holds = (λ e. v.holds refl, λ p. refl);
+  fails = (λ e. absurd (true_false e), λ p. absurd (not_both steps literal d (v.holds refl) p));
 }
-value_tells steps literal (Some false) d v = record {
-  unassigned = (v.unassigned, λ u. absurd (not_placed steps literal (negated literal) u (negated-half literal) (v.fails refl)));
-  holds = (v.holds, λ p. absurd (not_both steps literal d p (v.fails refl)));
-  fails = (v.fails, λ p. refl);
+value_tells steps literal Fails d v = record {
+  unassigned = (λ e. absurd (none_some false (sym e)), λ u. absurd (not_placed steps literal (negated literal) u (negated-half literal) (v.fails refl)));
+  holds = (λ e. absurd (true_false (sym e)), λ p. absurd (not_both steps literal d p (v.fails refl)));
+  fails = (λ e. v.fails refl, λ p. refl);
 }
 
 -- a read of a value, exactly
-pub exact_read : (atoms : ℕ) (steps now : List Step) (truths : List (Option Bool)) (places depths : List ℕ) (code : ℕ) (r : Option Bool) → AreTables atoms steps truths places depths → steps ≡ now → length truths ≡ 2 * atoms + 1 → code < 2 * atoms → r ≡ get_or truths code r → IsValue now code r
+pub exact_read : (atoms : ℕ) (steps now : List Step) (truths : List Truth) (places depths : List ℕ) (code : ℕ) (r : Truth) → AreTables atoms steps truths places depths → steps ≡ now → length truths ≡ 2 * atoms + 1 → code < 2 * atoms → r ≡ get_or truths code r → IsValue now code (told r)
 exact_read atoms steps now truths places depths code r t e l h read =
     let d = tables_distinct atoms steps truths places depths t in
     value_tells now code r (subst (λ (x : List Step). (p q : ℕ) → p < q → q < length x → literal_at x p / 2 ≢ literal_at x q / 2) e d)

@@ -16,7 +16,7 @@ use Rattle.asp_clauses.proofs.FewLemmas.{unassigned_few, tables_distinct}
 
 -- how long the lists in a trail are
 pub length_steps : (t : Inside) → IsSound t → length (steps_of t) ≡ t.len
-length_steps t v = length-take-le t.len t.steps.items (omega (arith, v.len, v.steps_size))
+length_steps t v = length-take-le t.len t.steps (omega (arith, v.len, v.steps_size))
 
 pub length_marks : (t : Inside) → IsSound t → length (marks_of t) ≡ t.decisions
 length_marks t v = length-take-le t.decisions t.marks.items (omega (arith, v.len, v.decided, v.marks_size))
@@ -41,8 +41,8 @@ pub record BackFacts (t : Inside) (level : ℕ) (mark : Mark) : Type 0 where
   pub marked : level < length (marks_of t)
   pub is : mark ≡ mark_at (marks_of t) level
   pub within : mark.start < t.len
-  pub steps : take mark.start t.steps.items ≡ take (mark_at (marks_of t) level).start (steps_of t)
-  pub back : take mark.start t.steps.items ≡ back_to level (steps_of t)
+  pub steps : take mark.start t.steps ≡ take (mark_at (marks_of t) level).start (steps_of t)
+  pub back : take mark.start t.steps ≡ back_to level (steps_of t)
   pub marks : take level t.marks.items ≡ take level (marks_of t)
   pub few : level < t.decisions
   pub fewer : level ≤ mark.start
@@ -57,8 +57,8 @@ back_facts t now level mark v is h read =
     let m = v.marks.each level marked in
     let start = ap (λ (x : Mark). x.start) at in
     let within : mark.start < t.len = omega (arith, m.within, start, length_steps t v) in
-    let parts : take mark.start t.steps.items ≡ take (mark_at (marks_of t) level).start (steps_of t) =
-    sym (take-take mark.start t.len t.steps.items (omega (arith, within))) ∙ ap (λ (n : ℕ). take n (steps_of t)) start in
+    let parts : take mark.start t.steps ≡ take (mark_at (marks_of t) level).start (steps_of t) =
+    sym (take-take mark.start t.len t.steps (omega (arith, within))) ∙ ap (λ (n : ℕ). take n (steps_of t)) start in
     let counted = decisions-le-length (take (mark_at (marks_of t) level).start (steps_of t)) in
     let short = length-take-le (mark_at (marks_of t) level).start (steps_of t) (omega (arith, m.within)) in
     record {

@@ -27,3 +27,4 @@ pub mod KeepLemmas
 pub mod RecordLemmas
 pub mod NumberedLemmas
 pub mod BookLemmas
+pub mod StepTableLemmas

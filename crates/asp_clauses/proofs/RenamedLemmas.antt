@@ -4,6 +4,8 @@ use Rattle.std.proofs.Math.ListN.{get_or-map}
 use Rattle.std.proofs.lemmas.List.{take-map, length-map, take_more, take_more_set, map-append, get_or-set_same, get_or-set_other, length-take-le, get_or-take}
 use Rattle.std.proofs.lemmas.Bool.{cases_eq}
 use Rattle.std.proofs.lemmas.List.Sums.{sum_by-append}
+use Rattle.asp_clauses.specs.declared.trail.Truth.{Truth}
+use Rattle.asp_clauses.specs.declared.trail.Truth.TheVariants.{Unassigned}
 use Rattle.asp_clauses.specs.declared.trail.Step.{Step}
 use Rattle.asp_clauses.specs.declared.trail.Mark.{Mark}
 use Rattle.asp_clauses.specs.Literal.{negated}
@@ -65,19 +67,19 @@ pub Implies-renamed : (g : ℕ → ℕ) (steps : List Step) (clause : List ℕ) 
 Implies-renamed g steps clause literal i = record { has = i.has; others_fail = λ other c ne. IsPlaced-renamed g steps (negated other) (i.others_fail other c ne) }
 
 -- tables and marks don't look at the numbers of reasons
-Tells-renamed : (g : ℕ → ℕ) (steps : List Step) (literal : ℕ) (value : Option Bool) → Tells steps literal value → Tells (map (renamed g) steps) literal value
+Tells-renamed : (g : ℕ → ℕ) (steps : List Step) (literal : ℕ) (value : Truth) → Tells steps literal value → Tells (map (renamed g) steps) literal value
 Tells-renamed g steps literal value t = record {
   unassigned = λ e. IsUnassigned-renamed g steps literal (t.unassigned e);
   holds = λ e. IsPlaced-renamed g steps literal (t.holds e);
   fails = λ e. IsPlaced-renamed g steps (negated literal) (t.fails e);
 }
 
-pub AreTables-renamed : (g : ℕ → ℕ) (atoms : ℕ) (steps : List Step) (truths : List (Option Bool)) (places depths : List ℕ) → AreTables atoms steps truths places depths → AreTables atoms (map (renamed g) steps) truths places depths
+pub AreTables-renamed : (g : ℕ → ℕ) (atoms : ℕ) (steps : List Step) (truths : List Truth) (places depths : List ℕ) → AreTables atoms steps truths places depths → AreTables atoms (map (renamed g) steps) truths places depths
 AreTables-renamed g atoms steps truths places depths t =
     let len = length-map steps (renamed g) in
     record {
       codes = λ place h. subst (λ (n : ℕ). n < 2 * atoms) (sym (literal_at-renamed g steps place)) (t.codes place (omega (arith, len, h)));
-      values = λ code h. Tells-renamed g steps code (get_or truths code None) (t.values code h);
+      values = λ code h. Tells-renamed g steps code (get_or truths code Unassigned) (t.values code h);
       origin_value = t.origin_value;
       positions = λ place h. ap (λ (n : ℕ). get_or places (n / 2) 0) (literal_at-renamed g steps place) ∙ t.positions place (omega (arith, len, h));
       origin_position = t.origin_position;

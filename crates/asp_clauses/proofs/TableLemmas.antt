@@ -1,8 +1,10 @@
 -- Tables and marks of a trail, where one more literal is placed.
-use Rattle.std.proofs.Common.{◌≡◌, ◌≢◌, ℕ, zero, suc, ◌+◌, ◌-◌, ◌*◌, ◌/◌, ◌<◌, ◌≤◌, ◌⊎◌, Bool, true, false, cond, List, [], ◌∷◌, ◌++◌, length, get_or, set, take, refl, sym, ◌∙◌, ap, arith, inl, inr, subst, Option, Some, None, length-set, add-one, not, lit≤}
+use Rattle.std.proofs.Common.{◌≡◌, ◌≢◌, ℕ, zero, suc, ◌+◌, ◌-◌, ◌*◌, ◌/◌, ◌<◌, ◌≤◌, ◌⊎◌, Bool, true, false, cond, List, [], ◌∷◌, ◌++◌, length, get_or, set, take, refl, sym, ◌∙◌, ap, arith, inl, inr, subst, length-set, add-one, not, lit≤}
 use Rattle.std.proofs.lemmas.List.{length_push, get_or_append_left, get_or_push, take-append-le, take_all, get_or-set_same, get_or-set_other, get_or_read, take_more_set, take-set-le, set_past, get_or_past}
 use Rattle.std.proofs.lemmas.Bool.{cases_lt, cases_Bool, cases_eq}
 use Rattle.std.specs.Int.{from_bool}
+use Rattle.asp_clauses.specs.declared.trail.Truth.{Truth}
+use Rattle.asp_clauses.specs.declared.trail.Truth.TheVariants.{Unassigned, Holds, Fails}
 use Rattle.asp_clauses.specs.declared.trail.Step.{Step}
 use Rattle.asp_clauses.specs.declared.trail.Mark.{Mark}
 use Rattle.asp_clauses.specs.Literal.{negated}
@@ -14,35 +16,35 @@ use Rattle.asp_clauses.proofs.LiteralLemmas.{negated-half, same_half, negated-ne
 use Rattle.asp_clauses.proofs.StepsLemmas.{place_cases, step_at-push, step_at-last, IsPlaced-push, IsPlaced-last, IsUnassigned-push, decisions-push_yes, decisions-push_no}
 
 -- the values after a literal became true
-abbrev pub assigned : List (Option Bool) → ℕ → List (Option Bool)
-assigned truths literal = set (set truths literal (Some true)) (negated literal) (Some false)
+abbrev pub assigned : List Truth → ℕ → List Truth
+assigned truths literal = set (set truths literal Holds) (negated literal) Fails
 
-assigned_itself : (truths : List (Option Bool)) (literal : ℕ) → literal < length truths → get_or (assigned truths literal) literal None ≡ Some true
+assigned_itself : (truths : List Truth) (literal : ℕ) → literal < length truths → get_or (assigned truths literal) literal Unassigned ≡ Holds
 assigned_itself truths literal h =
     let ne : literal ≢ negated literal = λ e. negated-≢ literal (sym e) in
-    get_or-set_other (set truths literal (Some true)) (negated literal) literal (Some false) None ne ∙ get_or-set_same truths literal (Some true) None h
+    get_or-set_other (set truths literal Holds) (negated literal) literal Fails Unassigned ne ∙ get_or-set_same truths literal Holds Unassigned h
 
-assigned_negation : (truths : List (Option Bool)) (literal : ℕ) → negated literal < length truths → get_or (assigned truths literal) (negated literal) None ≡ Some false
-assigned_negation truths literal h = get_or-set_same (set truths literal (Some true)) (negated literal) (Some false) None (let l = length-set truths literal (Some true) in omega (arith, l))
+assigned_negation : (truths : List Truth) (literal : ℕ) → negated literal < length truths → get_or (assigned truths literal) (negated literal) Unassigned ≡ Fails
+assigned_negation truths literal h = get_or-set_same (set truths literal Holds) (negated literal) Fails Unassigned (let l = length-set truths literal Holds in omega (arith, l))
 
-pub assigned_others : (truths : List (Option Bool)) (literal code : ℕ) → code / 2 ≢ literal / 2 → get_or (assigned truths literal) code None ≡ get_or truths code None
+pub assigned_others : (truths : List Truth) (literal code : ℕ) → code / 2 ≢ literal / 2 → get_or (assigned truths literal) code Unassigned ≡ get_or truths code Unassigned
 assigned_others truths literal code h =
     let one : code ≢ negated literal = λ e. h (ap (λ (x : ℕ). x / 2) e ∙ negated-half literal) in
     let two : code ≢ literal = λ e. h (ap (λ (x : ℕ). x / 2) e) in
-    get_or-set_other (set truths literal (Some true)) (negated literal) code (Some false) None one ∙ get_or-set_other truths literal code (Some true) None two
+    get_or-set_other (set truths literal Holds) (negated literal) code Fails Unassigned one ∙ get_or-set_other truths literal code Holds Unassigned two
 
-value_pushed : (steps : List Step) (step : Step) (truths : List (Option Bool)) → step.literal < length truths → negated step.literal < length truths → (code : ℕ) → Tells steps code (get_or truths code None) → Tells (steps ++ step ∷ []) code (get_or (assigned truths step.literal) code None)
+value_pushed : (steps : List Step) (step : Step) (truths : List Truth) → step.literal < length truths → negated step.literal < length truths → (code : ℕ) → Tells steps code (get_or truths code Unassigned) → Tells (steps ++ step ∷ []) code (get_or (assigned truths step.literal) code Unassigned)
 value_pushed steps step truths h g code v = elim (cases_eq (code / 2) (step.literal / 2)) [
   | inl same ↦ elim (same_half code step.literal same) [
     | inl is ↦
-        let now : get_or (assigned truths step.literal) code None ≡ Some true = ap (λ (x : ℕ). get_or (assigned truths step.literal) x None) is ∙ assigned_itself truths step.literal h in
+        let now : get_or (assigned truths step.literal) code Unassigned ≡ Holds = ap (λ (x : ℕ). get_or (assigned truths step.literal) x Unassigned) is ∙ assigned_itself truths step.literal h in
         record {
           unassigned = λ e. let w = sym e ∙ now in cc;
           holds = λ e. subst (λ (x : ℕ). IsPlaced (steps ++ step ∷ []) x) (sym is) (IsPlaced-last steps step);
           fails = λ e. let w = sym e ∙ now in cc;
         }
     | inr is ↦
-        let now : get_or (assigned truths step.literal) code None ≡ Some false = ap (λ (x : ℕ). get_or (assigned truths step.literal) x None) is ∙ assigned_negation truths step.literal g in
+        let now : get_or (assigned truths step.literal) code Unassigned ≡ Fails = ap (λ (x : ℕ). get_or (assigned truths step.literal) x Unassigned) is ∙ assigned_negation truths step.literal g in
         let back : step.literal ≡ negated code = sym (ap negated is ∙ negated-negated step.literal) in
         record {
           unassigned = λ e. let w = sym e ∙ now in cc;
@@ -60,7 +62,7 @@ value_pushed steps step truths h g code v = elim (cases_eq (code / 2) (step.lite
 ]
 
 -- the tables after a placement
-pub AreTables-push : (atoms : ℕ) (steps : List Step) (truths : List (Option Bool)) (places depths : List ℕ) (step : Step) (depth : ℕ) →
+pub AreTables-push : (atoms : ℕ) (steps : List Step) (truths : List Truth) (places depths : List ℕ) (step : Step) (depth : ℕ) →
     AreTables atoms steps truths places depths → step.literal < 2 * atoms → IsUnassigned steps step.literal →
     length truths ≡ 2 * atoms + 1 → length places ≡ atoms + 1 → length depths ≡ atoms → depth ≡ decisions (steps ++ step ∷ []) →
     AreTables atoms (steps ++ step ∷ []) (assigned truths step.literal) (set places (step.literal / 2) (length steps + 1)) (set depths (step.literal / 2) depth)
@@ -161,12 +163,12 @@ AreMarks-decided steps marks head step m d =
     }
 
 -- a read of a value
-pub value_read : (atoms : ℕ) (steps now : List Step) (truths : List (Option Bool)) (places depths : List ℕ) (code : ℕ) (r : Option Bool) → AreTables atoms steps truths places depths → steps ≡ now → length truths ≡ 2 * atoms + 1 → code < 2 * atoms → r ≡ get_or truths code r → Tells now code r
+pub value_read : (atoms : ℕ) (steps now : List Step) (truths : List Truth) (places depths : List ℕ) (code : ℕ) (r : Truth) → AreTables atoms steps truths places depths → steps ≡ now → length truths ≡ 2 * atoms + 1 → code < 2 * atoms → r ≡ get_or truths code r → Tells now code r
 value_read atoms steps now truths places depths code r t e l h read =
-    subst (λ (x : List Step). Tells x code r) e (subst (Tells steps code) (sym (get_or_read truths code r (omega arith) read None)) (t.values code h))
+    subst (λ (x : List Step). Tells x code r) e (subst (Tells steps code) (sym (get_or_read truths code r (omega arith) read Unassigned)) (t.values code h))
 
 -- a read of a position
-pub position_read : (atoms : ℕ) (steps : List Step) (truths : List (Option Bool)) (places depths : List ℕ) (code r : ℕ) → AreTables atoms steps truths places depths → length places ≡ atoms + 1 → code ≤ 2 * atoms → (code < 2 * atoms → IsPlaced steps (negated code)) → r ≡ get_or places (code / 2) r → (r ≤ length steps) × (visit_at atoms steps r ≡ code)
+pub position_read : (atoms : ℕ) (steps : List Step) (truths : List Truth) (places depths : List ℕ) (code r : ℕ) → AreTables atoms steps truths places depths → length places ≡ atoms + 1 → code ≤ 2 * atoms → (code < 2 * atoms → IsPlaced steps (negated code)) → r ≡ get_or places (code / 2) r → (r ≤ length steps) × (visit_at atoms steps r ≡ code)
 position_read atoms steps truths places depths code r t l h fails read =
     let same : r ≡ get_or places (code / 2) 0 = get_or_read places (code / 2) r (omega arith) read 0 in
     elim (cases_lt code (2 * atoms)) [
@@ -226,51 +228,51 @@ from_bool-le true = lit≤ tt
 from_bool-le false = lit≤ tt
 
 -- the values after a literal was taken back
-abbrev pub cleared : List (Option Bool) → ℕ → List (Option Bool)
-cleared truths literal = set (set truths literal None) (negated literal) None
+abbrev pub cleared : List Truth → ℕ → List Truth
+cleared truths literal = set (set truths literal Unassigned) (negated literal) Unassigned
 
-none_stays : (truths : List (Option Bool)) (i j : ℕ) → get_or truths j None ≡ None → get_or (set truths i None) j None ≡ None
+none_stays : (truths : List Truth) (i j : ℕ) → get_or truths j Unassigned ≡ Unassigned → get_or (set truths i Unassigned) j Unassigned ≡ Unassigned
 none_stays truths i j e = elim (cases_eq j i) [
   | inl same ↦ elim (cases_lt i (length truths)) [
-    | inl lt ↦ ap (λ (x : ℕ). get_or (set truths i None) x None) same ∙ get_or-set_same truths i None None lt
-    | inr ge ↦ ap (λ (x : List (Option Bool)). get_or x j None) (set_past truths i None ge) ∙ e
+    | inl lt ↦ ap (λ (x : ℕ). get_or (set truths i Unassigned) x Unassigned) same ∙ get_or-set_same truths i Unassigned Unassigned lt
+    | inr ge ↦ ap (λ (x : List Truth). get_or x j Unassigned) (set_past truths i Unassigned ge) ∙ e
   ]
-  | inr ne ↦ get_or-set_other truths i j None None ne ∙ e
+  | inr ne ↦ get_or-set_other truths i j Unassigned Unassigned ne ∙ e
 ]
 
-none_here : (truths : List (Option Bool)) (i : ℕ) → get_or (set truths i None) i None ≡ None
+none_here : (truths : List Truth) (i : ℕ) → get_or (set truths i Unassigned) i Unassigned ≡ Unassigned
 none_here truths i = elim (cases_lt i (length truths)) [
-  | inl lt ↦ get_or-set_same truths i None None lt
-  | inr ge ↦ get_or_past (set truths i None) i None (let l = length-set truths i None in omega (arith, l))
+  | inl lt ↦ get_or-set_same truths i Unassigned Unassigned lt
+  | inr ge ↦ get_or_past (set truths i Unassigned) i Unassigned (let l = length-set truths i Unassigned in omega (arith, l))
 ]
 
-pub IsCleared-stays : (truths : List (Option Bool)) (literal other : ℕ) → IsCleared truths other → IsCleared (cleared truths literal) other
+pub IsCleared-stays : (truths : List Truth) (literal other : ℕ) → IsCleared truths other → IsCleared (cleared truths literal) other
 IsCleared-stays truths literal other c = record {
-  itself = none_stays (set truths literal None) (negated literal) other (none_stays truths literal other c.itself);
-  negation = none_stays (set truths literal None) (negated literal) (negated other) (none_stays truths literal (negated other) c.negation);
+  itself = none_stays (set truths literal Unassigned) (negated literal) other (none_stays truths literal other c.itself);
+  negation = none_stays (set truths literal Unassigned) (negated literal) (negated other) (none_stays truths literal (negated other) c.negation);
 }
 
-pub IsCleared-here : (truths : List (Option Bool)) (literal : ℕ) → IsCleared (cleared truths literal) literal
+pub IsCleared-here : (truths : List Truth) (literal : ℕ) → IsCleared (cleared truths literal) literal
 IsCleared-here truths literal = record {
-  itself = none_stays (set truths literal None) (negated literal) literal (none_here truths literal);
-  negation = none_here (set truths literal None) (negated literal);
+  itself = none_stays (set truths literal Unassigned) (negated literal) literal (none_here truths literal);
+  negation = none_here (set truths literal Unassigned) (negated literal);
 }
 
-pub cleared_others : (truths : List (Option Bool)) (literal code : ℕ) → literal / 2 ≢ code / 2 → get_or (cleared truths literal) code None ≡ get_or truths code None
+pub cleared_others : (truths : List Truth) (literal code : ℕ) → literal / 2 ≢ code / 2 → get_or (cleared truths literal) code Unassigned ≡ get_or truths code Unassigned
 cleared_others truths literal code h =
     let one : code ≢ negated literal = λ e. h (sym (ap (λ (x : ℕ). x / 2) e ∙ negated-half literal)) in
     let two : code ≢ literal = λ e. h (sym (ap (λ (x : ℕ). x / 2) e)) in
-    get_or-set_other (set truths literal None) (negated literal) code None None one ∙ get_or-set_other truths literal code None None two
+    get_or-set_other (set truths literal Unassigned) (negated literal) code Unassigned Unassigned one ∙ get_or-set_other truths literal code Unassigned Unassigned two
 
 -- the loop that clears: its facts, and one more step
-pub record ClearedTo (steps : List Step) (before now : List (Option Bool)) (from to : ℕ) : Type 0 where
+pub record ClearedTo (steps : List Step) (before now : List Truth) (from to : ℕ) : Type 0 where
   pub gone : (place : ℕ) → from ≤ place → place < to → IsCleared now (literal_at steps place)
-  pub kept : (code : ℕ) → IsOutside steps from to code → get_or now code None ≡ get_or before code None
+  pub kept : (code : ℕ) → IsOutside steps from to code → get_or now code Unassigned ≡ get_or before code Unassigned
 
-pub ClearedTo-none : (steps : List Step) (before : List (Option Bool)) (from : ℕ) → ClearedTo steps before before from from
+pub ClearedTo-none : (steps : List Step) (before : List Truth) (from : ℕ) → ClearedTo steps before before from from
 ClearedTo-none steps before from = record { gone = λ place a b. absurd (omega arith); kept = λ code o. refl }
 
-pub ClearedTo-more : (steps : List Step) (before now : List (Option Bool)) (from to : ℕ) → from ≤ to → ClearedTo steps before now from to → ClearedTo steps before (cleared now (literal_at steps to)) from (to + 1)
+pub ClearedTo-more : (steps : List Step) (before now : List Truth) (from to : ℕ) → from ≤ to → ClearedTo steps before now from to → ClearedTo steps before (cleared now (literal_at steps to)) from (to + 1)
 ClearedTo-more steps before now from to h c = record {
   gone = λ place a b. elim (cases_lt place to) [
     | inl lt ↦ IsCleared-stays now (literal_at steps to) (literal_at steps place) (c.gone place a lt)
@@ -280,33 +282,33 @@ ClearedTo-more steps before now from to h c = record {
 }
 
 -- what else a value tells
-pub true_read : (atoms : ℕ) (steps now : List Step) (truths : List (Option Bool)) (places depths : List ℕ) (code : ℕ) (r : Option Bool) → AreTables atoms steps truths places depths → steps ≡ now → length truths ≡ 2 * atoms + 1 → code ≤ 2 * atoms → r ≡ get_or truths code r → r ≡ Some true → IsPlaced now code
+pub true_read : (atoms : ℕ) (steps now : List Step) (truths : List Truth) (places depths : List ℕ) (code : ℕ) (r : Truth) → AreTables atoms steps truths places depths → steps ≡ now → length truths ≡ 2 * atoms + 1 → code ≤ 2 * atoms → r ≡ get_or truths code r → r ≡ Holds → IsPlaced now code
 true_read atoms steps now truths places depths code r t e l h read is = elim (cases_lt code (2 * atoms)) [
   | inl lt ↦ (value_read atoms steps now truths places depths code r t e l lt read).holds is
   | inr ge ↦
       let end_is : code ≡ 2 * atoms = omega arith in
-      let v : r ≡ Some false = get_or_read truths code r (omega arith) read None ∙ ap (λ (x : ℕ). get_or truths x None) end_is ∙ t.origin_value in
+      let v : r ≡ Fails = get_or_read truths code r (omega arith) read Unassigned ∙ ap (λ (x : ℕ). get_or truths x Unassigned) end_is ∙ t.origin_value in
       let w = sym is ∙ v in cc
 ]
 
-pub open_read : (atoms : ℕ) (steps now : List Step) (truths : List (Option Bool)) (places depths : List ℕ) (code : ℕ) (r : Option Bool) → AreTables atoms steps truths places depths → steps ≡ now → length truths ≡ 2 * atoms + 1 → code < 2 * atoms → r ≡ get_or truths code r → (r ≡ Some true → ⊥) → IsUnassigned now code ⊎ IsPlaced now (negated code)
+pub open_read : (atoms : ℕ) (steps now : List Step) (truths : List Truth) (places depths : List ℕ) (code : ℕ) (r : Truth) → AreTables atoms steps truths places depths → steps ≡ now → length truths ≡ 2 * atoms + 1 → code < 2 * atoms → r ≡ get_or truths code r → (r ≡ Holds → ⊥) → IsUnassigned now code ⊎ IsPlaced now (negated code)
 open_read atoms steps now truths places depths code r t e l h read no_true = go r (value_read atoms steps now truths places depths code r t e l h read) no_true
   where
-    go : (r : Option Bool) → Tells now code r → (r ≡ Some true → ⊥) → IsUnassigned now code ⊎ IsPlaced now (negated code)
-    go None v n = inl (v.unassigned refl)
-    go (Some true) v n = absurd (n refl)
-    go (Some false) v n = inr (v.fails refl)
+    go : (r : Truth) → Tells now code r → (r ≡ Holds → ⊥) → IsUnassigned now code ⊎ IsPlaced now (negated code)
+    go Unassigned v n = inl (v.unassigned refl)
+    go Holds v n = absurd (n refl)
+    go Fails v n = inr (v.fails refl)
 
-pub not_origin : (atoms : ℕ) (steps : List Step) (truths : List (Option Bool)) (places depths : List ℕ) (code : ℕ) (r : Option Bool) → AreTables atoms steps truths places depths → length truths ≡ 2 * atoms + 1 → code ≤ 2 * atoms → r ≡ get_or truths code r → (r ≡ Some false → ⊥) → code < 2 * atoms
+pub not_origin : (atoms : ℕ) (steps : List Step) (truths : List Truth) (places depths : List ℕ) (code : ℕ) (r : Truth) → AreTables atoms steps truths places depths → length truths ≡ 2 * atoms + 1 → code ≤ 2 * atoms → r ≡ get_or truths code r → (r ≡ Fails → ⊥) → code < 2 * atoms
 not_origin atoms steps truths places depths code r t l h read no_false = elim (cases_lt code (2 * atoms)) [
   | inl lt ↦ lt
   | inr ge ↦
       let end_is : code ≡ 2 * atoms = omega arith in
-      absurd (no_false (get_or_read truths code r (omega arith) read None ∙ ap (λ (x : ℕ). get_or truths x None) end_is ∙ t.origin_value))
+      absurd (no_false (get_or_read truths code r (omega arith) read Unassigned ∙ ap (λ (x : ℕ). get_or truths x Unassigned) end_is ∙ t.origin_value))
 ]
 
 -- the position of a literal is its only visit
-pub position_only : (atoms : ℕ) (steps : List Step) (truths : List (Option Bool)) (places depths : List ℕ) (code r : ℕ) → AreTables atoms steps truths places depths → length places ≡ atoms + 1 → code ≤ 2 * atoms → r ≡ get_or places (code / 2) r → (visit : ℕ) → visit ≤ length steps → visit_at atoms steps visit ≡ code → visit ≡ r
+pub position_only : (atoms : ℕ) (steps : List Step) (truths : List Truth) (places depths : List ℕ) (code r : ℕ) → AreTables atoms steps truths places depths → length places ≡ atoms + 1 → code ≤ 2 * atoms → r ≡ get_or places (code / 2) r → (visit : ℕ) → visit ≤ length steps → visit_at atoms steps visit ≡ code → visit ≡ r
 position_only atoms steps truths places depths code r t l h read zero v e =
     let same : r ≡ get_or places (code / 2) 0 = get_or_read places (code / 2) r (omega arith) read 0 in
     let half : code / 2 ≡ atoms = omega (arith, e) in

@@ -10,3 +10,4 @@ pub mod TrailFields
 pub mod Visits
 pub mod Choices
 pub mod Kept
+pub mod Steps

@@ -1,6 +1,8 @@
 -- How the calls of a trail change it.
-use Rattle.std.specs.Prelude.{◌≡◌, ◌≢◌, ℕ, ◌+◌, ◌*◌, ◌/◌, ◌<◌, ◌≤◌, ◌⊎◌, min, Bool, List, [], ◌∷◌, ◌++◌, length, take, Option, None, slice_index_or, if◌then◌else◌}
+use Rattle.std.specs.Prelude.{◌≡◌, ◌≢◌, ℕ, ◌+◌, ◌*◌, ◌/◌, ◌<◌, ◌≤◌, ◌⊎◌, min, List, [], ◌∷◌, ◌++◌, length, take, slice_index_or, if◌then◌else◌}
 use Rattle.asp_clauses.specs.declared.trail.Step.{Step}
+use Rattle.asp_clauses.specs.declared.trail.Truth.{Truth}
+use Rattle.asp_clauses.specs.declared.trail.Truth.TheVariants.{Unassigned}
 use Rattle.asp_clauses.specs.declared.trail.Mark.{Mark}
 use Rattle.asp_clauses.specs.Literal.{negated}
 use Rattle.asp_clauses.specs.Trail.{TrailState, mark_at, literal_at, is_decision, back_to, IsPlaced, IsUnassigned}
@@ -51,9 +53,9 @@ abbrev pub IsOpen : TrailState → ℕ → Type 0
 IsOpen trail code = code < 2 * trail.atoms → IsUnassigned trail.steps code ⊎ IsPlaced trail.steps (negated code)
 
 -- both literals of the atom are unassigned
-pub record IsCleared (values : List (Option Bool)) (literal : ℕ) : Type 0 where
-  pub itself : slice_index_or values literal None ≡ None
-  pub negation : slice_index_or values (negated literal) None ≡ None
+pub record IsCleared (values : List Truth) (literal : ℕ) : Type 0 where
+  pub itself : slice_index_or values literal Unassigned ≡ Unassigned
+  pub negation : slice_index_or values (negated literal) Unassigned ≡ Unassigned
 
 -- none of these steps is on the atom of the code
 abbrev pub IsOutside : List Step → ℕ → ℕ → ℕ → Type 0

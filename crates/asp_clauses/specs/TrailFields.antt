@@ -8,7 +8,7 @@ use Rattle.asp_clauses.specs.Trail.{TrailState}
 use Rattle.asp_clauses.specs.Tables.{AreTables, AreMarks}
 
 abbrev pub steps_of : Inside → List Step
-steps_of t = take t.len t.steps.items
+steps_of t = take t.len t.steps
 
 abbrev pub marks_of : Inside → List Mark
 marks_of t = take t.decisions t.marks.items
@@ -25,7 +25,7 @@ state_of t = record {
 
 pub record IsSound (t : Inside) : Type 0 where
   pub few_atoms : t.atoms ≤ most_atoms
-  pub steps_size : length t.steps.items ≡ t.atoms
+  pub steps_size : length t.steps ≡ t.atoms
   pub values_size : length t.values.items ≡ 2 * t.atoms + 1
   pub positions_size : length t.positions.items ≡ t.atoms + 1
   pub levels_size : length t.levels.items ≡ t.atoms

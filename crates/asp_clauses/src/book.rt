@@ -4,6 +4,7 @@ ghost use Rattle.std.specs.Prelude.{◌≡◌, ℕ, ◌+◌, ◌*◌, ◌<◌, �
 ghost use Rattle.asp_clauses.specs.Literal.{most_atoms};
 ghost use Rattle.asp_clauses.specs.Trail.{TrailState, clause_at};
 ghost use Rattle.asp_clauses.specs.Book.{Goes, IsClause};
+ghost use Rattle.asp_clauses.specs.Records.{end};
 ghost use Rattle.asp_clauses.specs.Kept.{kept, is_firm, mark_of, kind_at, no_kind, renumbered, IsReason};
 
 use crate::NoMemory;
@@ -163,6 +164,13 @@ impl Book {
         number_clauses(&mut self.watches, stays);
         trail.renumber(&self.watches.records);
         compact(&mut self.watches, &mut self.kinds);
+    }
+
+    /// Shows that no clause has the number that stands for none.
+    pub(crate) fn show_numbers(&self)
+        ensures { length self.now.clauses ≤ end }
+    {
+        let _ = self.watches.records.len();
     }
 
     /// How many clauses there are.

@@ -4,7 +4,7 @@ ghost use Rattle.std.specs.Prelude.{◌≡◌, ◌≢◌, ℕ, ◌+◌, ◌*◌,
 ghost use Rattle.asp_clauses.specs.Literal.{negated};
 ghost use Rattle.asp_clauses.specs.Trail.{IsPlaced};
 ghost use Rattle.asp_clauses.specs.Book.{Goes, IsClause};
-ghost use Rattle.asp_clauses.specs.Records.{row_at};
+ghost use Rattle.asp_clauses.specs.Records.{row_at, end};
 ghost use Rattle.asp_clauses.specs.Watches.{AreWatches, IsStore, book_of};
 ghost use Rattle.asp_clauses.specs.Visits.{Propagates, IsStopped, IsConflict};
 ghost use Rattle.asp_clauses.specs.Choices.{IsLatest, Chooses, Orders, MadeTrue, IsBarred};
@@ -49,6 +49,7 @@ pub fn examine(watches: &mut Watches, trail: &mut Trail) -> Result<Option<u32>, 
 /// Has the literal true: it is, or it is placed as implied by the clause.
 pub fn make_true(trail: &mut Trail, literal: u32, clause: u32) -> Result<(), Spent>
     requires code { literal < 2 * trail.old.atoms }
+    requires number { clause < end }
     requires stands { IsPlaced trail.old.steps (negated literal) → ⊥ }
     ensures ok { OnOk result (MadeTrue trail.old trail.new literal clause) }
     ensures err { OnErr result (IsBarred trail.old trail.new literal) }

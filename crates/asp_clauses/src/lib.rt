@@ -2,8 +2,10 @@
 //!
 //! # Idea
 //! - A literal is a code: `2 * atom + 1` for the atom, `2 * atom` for its negation.
-//! - A `Book` keeps clauses in one flat arena, a record each. A clause is looked at only where one of
-//!   its two watched literals became false.
+//! - A `Book` keeps clauses as records. A clause is looked at only where one of its two watched literals
+//!   became false.
+//! - A record has two parts: its literals, in one flat arena, and what a visit reads at first, in a table
+//!   by the clause's number: both watched literals and their links. So most visits read from one place.
 //! - The clauses that watch a literal form a list, whose links lie in the records: to move a watch
 //!   takes no memory.
 //! - Learned clauses that no placed literal stands on can be removed, and loose clauses are removed when
@@ -24,6 +26,7 @@
 //! | `kind` | what is known of a clause besides its literals |
 //! | `book` | the clauses as callers see them |
 //! | `compact` | removes clauses in place |
+//! | `steps` | a table of placed literals with their reasons |
 //! | `trail` | placed literals, their values, places and levels, decisions, count and budget |
 //! | `examine` | the first look at a new clause: it chooses what to watch |
 //! | `propagation` | places implied literals until none is left, a clause is false, or the budget is spent |
@@ -37,6 +40,7 @@ mod literal;
 mod propagation;
 mod records;
 mod rows;
+mod steps;
 mod trail;
 mod watches;
 

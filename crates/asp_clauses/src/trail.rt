@@ -3,15 +3,18 @@
 ghost use Rattle.std.specs.Prelude.{◌≡◌, ◌≢◌, ◌↔◌, ℕ, ◌+◌, ◌-◌, ◌*◌, ◌/◌, ◌^◌, ◌<◌, ◌≤◌, [], ◌∷◌, ◌++◌, length, map, take, Some, None, true, false, IfOk, OnOk, OnErr, IsErr, IsTrue, slice_index_or};
 ghost use Rattle.asp_clauses.specs.Trail.{IsValue, IsUnassigned, IsPlaced, StandsAt, literal_at, step_at, level_at, decisions, number, Implies, clause_at, back_to, no_step, mark_at};
 ghost use Rattle.asp_clauses.specs.Book.{BookState, Goes, IsGuarded, visit_at};
-ghost use Rattle.asp_clauses.specs.Kept.{IsReason, MarksReasons, relabelled};
+ghost use Rattle.asp_clauses.specs.declared.trail.Truth.TheVariants.{Unassigned};
+ghost use Rattle.asp_clauses.specs.Tables.{told};
+ghost use Rattle.asp_clauses.specs.Kept.{IsReason, MarksReasons, relabelled, number_in};
 ghost use Rattle.asp_clauses.specs.Literal.{negated, most_atoms};
-ghost use Rattle.asp_clauses.specs.Records.{AreLong};
+ghost use Rattle.asp_clauses.specs.Records.{AreLong, end};
 ghost use Rattle.asp_clauses.specs.Moves.{Places, Lowers, NextVisit, placed, gone_back, IsCleared, IsOutside, lowered, IsOpen};
 
 use crate::NoMemory;
 use crate::book::Book;
 use crate::literal::negation;
 use crate::records::{LINKS, Records};
+use crate::steps::Steps;
 use std::alloc::Global;
 use std::marker::Model;
 use thiserror::Error;
@@ -34,6 +37,30 @@ pub struct Mark {
     pub head: u32,
 }
 
+/// What a literal's value is: a byte for each literal.
+#[derive(Clone, Copy)]
+pub enum Truth {
+    /// Its atom is unassigned.
+    Unassigned,
+    /// It is true.
+    Holds,
+    /// It is false.
+    Fails,
+}
+
+impl Truth {
+    /// Whether the literal is true; none where its atom is unassigned.
+    fn told(self) -> Option<bool>
+        ensures { result ≡ told self }
+    {
+        match self {
+            Truth::Unassigned => None,
+            Truth::Holds => Some(true),
+            Truth::Fails => Some(false),
+        }
+    }
+}
+
 /// As many literals were placed as the budget allows.
 #[derive(Debug, Clone, Copy, PartialEq, Eq, Error)]
 #[error("as many literals were placed as the budget allows")]
@@ -47,10 +74,10 @@ pub struct Trail {
     budget: u64,
     count: u64,
     // The first `len` are the placed literals.
-    steps: Vec<Step>,
+    steps: Steps,
     len: u32,
     // For each code whether it is true; the origin is false.
-    values: Vec<Option<bool>>,
+    values: Vec<Truth>,
     // For each assigned atom, one more than the place of its literal; 0 for the origin.
     positions: Vec<u32>,
     levels: Vec<u32>,
@@ -84,18 +111,14 @@ impl Trail {
         ensures goes { IfOk result (λ trail. (book : BookState) → book.atoms ≡ atoms → Goes book trail) }
     {
         let codes = 2 * atoms as usize;
-        let mut values = vec![in alloc; None; codes + 1]?;
-        values[codes] = Some(false);
-        let unplaced = Step {
-            literal: 0,
-            reason: None,
-        };
+        let mut values = vec![in alloc; Truth::Unassigned; codes + 1]?;
+        values[codes] = Truth::Fails;
         let unmarked = Mark { start: 0, head: 0 };
         Ok(Trail {
             atoms,
             budget,
             count: 0,
-            steps: vec![in alloc; unplaced; atoms as usize]?,
+            steps: Steps::new(alloc, atoms)?,
             len: 0,
             values,
             positions: vec![in alloc; 0; atoms as usize + 1]?,
@@ -139,7 +162,7 @@ impl Trail {
         ensures unchanged { OnErr result (self.new ≡ self.old) }
         ensures goes { Goes book.now self.new }
     {
-        let _ = book;
+        book.show_numbers();
         if self.is_spent() {
             return Err(Spent);
         }
@@ -165,7 +188,7 @@ impl Trail {
         ensures unchanged { OnErr result (self.new ≡ self.old) }
         ensures goes { Goes book.now self.new }
     {
-        let _ = book;
+        book.show_numbers();
         if self.is_spent() {
             return Err(Spent);
         }
@@ -204,7 +227,7 @@ impl Trail {
         requires { lit < 2 * self.now.atoms }
         ensures { IsValue self.now.steps lit result }
     {
-        self.values[lit as usize]
+        self.values[lit as usize].told()
     }
 
     /// How many literals are placed.
@@ -235,7 +258,7 @@ impl Trail {
         ensures literal { result ≡ literal_at self.now.steps place }
         ensures code { result < 2 * self.now.atoms }
     {
-        self.steps[place as usize].literal
+        self.steps.literal(place)
     }
 
     /// How many decisions are placed up to and with the atom's literal.
@@ -251,7 +274,7 @@ impl Trail {
         requires { (place : ℕ) × StandsAt self.now.steps atom place }
         ensures { (place : ℕ) → StandsAt self.now.steps atom place → result ≡ (step_at self.now.steps place).reason }
     {
-        self.steps[self.positions[atom as usize] as usize - 1].reason
+        self.steps.get(self.positions[atom as usize] - 1).reason
     }
 }
 
@@ -272,8 +295,9 @@ impl Trail {
         ensures other { result ≡ false → IsOpen self.now code }
     {
         match self.values[code as usize] {
-            Some(truth) => truth,
-            None => false,
+            Truth::Holds => true,
+            Truth::Unassigned => false,
+            Truth::Fails => false,
         }
     }
 
@@ -285,8 +309,9 @@ impl Trail {
         ensures stands { result ≡ false → IsPlaced self.now.steps (negated code) → ⊥ }
     {
         match self.values[code as usize] {
-            Some(truth) => !truth,
-            None => false,
+            Truth::Fails => true,
+            Truth::Unassigned => false,
+            Truth::Holds => false,
         }
     }
 
@@ -313,7 +338,7 @@ impl Trail {
         if self.head > self.len {
             return None;
         }
-        Some(negation(self.steps[self.head as usize - 1].literal))
+        Some(negation(self.steps.literal(self.head - 1)))
     }
 
     /// Counts the visit as done.
@@ -336,6 +361,7 @@ impl Trail {
         requires code { step.literal < 2 * self.old.atoms }
         requires unassigned { IsUnassigned self.old.steps step.literal }
         requires unspent { self.old.count < self.old.budget }
+        requires number { (clause : ℕ) → step.reason ≡ Some clause → clause < end }
         ensures { self.new ≡ placed self.old step }
     {
         // The mark counts only where the step is a decision.
@@ -345,11 +371,11 @@ impl Trail {
         };
         self.decisions += u32::from(step.reason.is_none());
         let atom = (step.literal / 2) as usize;
-        self.values[step.literal as usize] = Some(true);
-        self.values[negation(step.literal) as usize] = Some(false);
+        self.values[step.literal as usize] = Truth::Holds;
+        self.values[negation(step.literal) as usize] = Truth::Fails;
         self.positions[atom] = self.len + 1;
         self.levels[atom] = self.decisions;
-        self.steps[self.len as usize] = step;
+        self.steps.set(self.len, step);
         self.len += 1;
         self.count += 1;
     }
@@ -365,6 +391,7 @@ impl Trail {
     /// Gives each reason the number that stands in its record.
     pub(crate) fn renumber(&mut self, records: &Records)
         requires reasons { (clause : ℕ) → IsReason self.old.steps clause → clause < length records.now }
+        requires numbers { (clause : ℕ) → IsReason self.old.steps clause → number_in records.now clause < end }
         requires long { AreLong records.now }
         ensures { self.new ≡ record self.old { steps = map (relabelled records.now) self.old.steps } }
     {
@@ -385,50 +412,52 @@ impl Trail {
 }
 
 /// Has the clauses stay that are reasons of the first steps.
-fn mark_reasons(stays: &mut [bool], steps: &[Step], len: u32)
+fn mark_reasons(stays: &mut [bool], steps: &Steps, len: u32)
     requires within { len ≤ length steps.now }
     requires reasons { (clause : ℕ) → IsReason (take len steps.now) clause → clause < length stays.old }
     ensures { MarksReasons (take len steps.now) len stays.old stays.new }
 {
     for place in 0..len {
-        if let Some(clause) = steps[place as usize].reason {
+        if let Some(clause) = steps.get(place).reason {
             stays[clause as usize] = true;
         }
     }
 }
 
 /// Gives each reason among the first steps the number that stands in its record.
-fn relabel(steps: &mut [Step], len: u32, records: &Records)
+fn relabel(steps: &mut Steps, len: u32, records: &Records)
     requires within { len ≤ length steps.old }
     requires reasons { (clause : ℕ) → IsReason (take len steps.old) clause → clause < length records.now }
+    requires numbers { (clause : ℕ) → IsReason (take len steps.old) clause → number_in records.now clause < end }
     requires long { AreLong records.now }
     ensures as_many { length steps.new ≡ length steps.old }
     ensures steps { take len steps.new ≡ map (relabelled records.now) (take len steps.old) }
 {
     for place in 0..len {
-        let step = steps[place as usize];
+        let step = steps.get(place);
         if let Some(clause) = step.reason {
-            steps[place as usize] = Step {
+            let renumbered = Step {
                 literal: step.literal,
                 reason: Some(records.cell(clause, LINKS)),
             };
+            steps.set(place, renumbered);
         }
     }
 }
 
 /// Unassigns the literals of these steps.
-fn clear_values(values: &mut [Option<bool>], steps: &[Step], from: u32, to: u32)
+fn clear_values(values: &mut [Truth], steps: &Steps, from: u32, to: u32)
     requires ordered { from ≤ to }
     requires within { to ≤ length steps.now }
     requires codes { (place : ℕ) → place < to → literal_at steps.now place + 1 < length values.old }
     ensures cleared { (place : ℕ) → from ≤ place → place < to → IsCleared values.new (literal_at steps.now place) }
     ensures others { (code : ℕ) → IsOutside steps.now from to code
-        → slice_index_or values.new code None ≡ slice_index_or values.old code None }
+        → slice_index_or values.new code Unassigned ≡ slice_index_or values.old code Unassigned }
 {
     for place in from..to {
-        let literal = steps[place as usize].literal;
-        values[literal as usize] = None;
-        values[negation(literal) as usize] = None;
+        let literal = steps.literal(place);
+        values[literal as usize] = Truth::Unassigned;
+        values[negation(literal) as usize] = Truth::Unassigned;
     }
 }
 

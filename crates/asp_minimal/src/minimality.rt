@@ -54,6 +54,7 @@ fn prepare(
     requires numbered { length numbers.now ≡ length set.now }
     requires numbers { AreNumbers search.old.atoms numbers.now }
     requires small { search.old.atoms ≤ limit which.Atoms }
+    requires firm { search.old.firm ≡ search.old.clauses }
     ensures demands { OnOk result (Demands search.old search.new
         (λ v. list_any (leaves v) numbers.now
         && list_all (allows (true_places set.now) (true_places part.now) numbers.now v) rules.now)) }

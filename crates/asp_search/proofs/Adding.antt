@@ -1,5 +1,5 @@
 -- lemmas on a clause as callers give it
-use Rattle.std.proofs.Common.{◌≡◌, ℕ, ◌*◌, ◌<◌, true, List, [], ◌∷◌, ◌++◌, length, get_or, take, sym, ap, ◌∙◌, subst, ⊎_elim, inl, arith}
+use Rattle.std.proofs.Common.{◌≡◌, ℕ, ◌*◌, ◌<◌, Bool, true, false, map, refl, List, [], ◌∷◌, ◌++◌, length, get_or, take, sym, ap, ◌∙◌, subst, ⊎_elim, inl, arith}
 use Rattle.std.specs.List.{Contains}
 use Rattle.std.proofs.lemmas.List.{length-take, get_or-take}
 use Rattle.std.proofs.lemmas.List.Elements.{Contains-append_left, Contains-push, Contains-push_cases}
@@ -12,6 +12,10 @@ use Rattle.asp_search.specs.Solver.{IsReady}
 use Rattle.asp_search.specs.Clause.{IsTautology, Collects, KeepsBook}
 use Rattle.asp_clauses.proofs.LiteralLemmas.{negated-negated, negated-≢, same_half}
 use Rattle.asp_search.proofs.Truth.{true_or_negated}
+use Rattle.asp_clauses.specs.declared.kind.Kind.{Kind}
+use Rattle.asp_clauses.specs.Kept.{kept, is_firm}
+use Rattle.asp_search.specs.Learned.{AddsFirm}
+use Rattle.asp_search.proofs.Basing.{firm_push_loose, firm_push_firm}
 use Rattle.asp_search.proofs.Clauses.{AddsClause-push}
 use Rattle.asp_clauses.proofs.ReorderLemmas.{Contains-at}
 
@@ -94,6 +98,17 @@ AddsClause-tautology clauses clause t = record {
   atoms = λ atom m. inl m;
 }
 
+-- what they change of the firm clauses
+pub AddsFirm-collected : (loose : Bool) (kinds : List Kind) (clauses : List (List ℕ)) (clause collected : List ℕ) → length kinds ≡ length clauses → Collects clause collected
+    → AddsFirm loose (kept (map is_firm kinds) clauses) (kept (map is_firm (kinds ++ record { learned = false; loose = loose; score = 0 } ∷ [])) (clauses ++ collected ∷ [])) clause
+AddsFirm-collected true kinds clauses clause collected as_many c = firm_push_loose kinds clauses _ collected as_many refl
+AddsFirm-collected false kinds clauses clause collected as_many c =
+    rw (firm_push_firm kinds clauses (record { learned = false; loose = false; score = 0 }) collected as_many refl) (AddsClause-collected (kept (map is_firm kinds) clauses) clause collected c)
+
+pub AddsFirm-tautology : (loose : Bool) (clauses : List (List ℕ)) (clause : List ℕ) → IsTautology clause → AddsFirm loose clauses clauses clause
+AddsFirm-tautology true clauses clause t = refl
+AddsFirm-tautology false clauses clause t = AddsClause-tautology clauses clause t
+
 pub IsReady-book : (old new : Solver) → IsReady old → KeepsBook old new → new.seen.marked ≡ [] → IsReady new
 IsReady-book old new ready k unmarked = record {
   fitted = record {
@@ -104,6 +119,7 @@ IsReady-book old new ready k unmarked = record {
   };
   ranges = k.ranges;
   learned = k.learned;
+  ground = rw (k.trail, k.looked, k.ground_loose) k.ground;
   unmarked = unmarked;
   assumptions = rw (k.trail, k.assumed) ready.assumptions;
   assumed = rw (k.trail, k.assumed) ready.assumed;

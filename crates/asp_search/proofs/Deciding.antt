@@ -11,7 +11,8 @@ use Rattle.asp_clauses.specs.Choices.{IsFixpoint}
 use Rattle.asp_search.specs.Meaning.{truth, SatisfiesAll}
 use Rattle.asp_search.specs.Analysis.{AreApart, is_member}
 use Rattle.asp_search.specs.Solver.{IsCursor, AreInRange}
-use Rattle.asp_search.specs.Found.{IsTotal, literals_of, assignment_of}
+use Rattle.asp_decide.specs.Total.{IsTotal}
+use Rattle.asp_search.specs.Found.{literals_of, assignment_of}
 use Rattle.asp_clauses.proofs.LiteralLemmas.{is_even, negated_even, negated_odd, same_half}
 use Rattle.asp_search.proofs.Truth.{truth-odd, truth-even, Contains-tail, Contains-cases}
 use Rattle.asp_search.proofs.Trails.{level_at-le-decisions}

@@ -9,6 +9,7 @@ use Rattle.asp_clauses.specs.Literal.{negated}
 use Rattle.asp_clauses.specs.Trail.{literal_at, level_at, IsLawful, IsPlaced, back_to}
 use Rattle.asp_search.specs.Meaning.{Mentions}
 use Rattle.asp_search.specs.Seen.{AreDistinct}
+use Rattle.asp_search.specs.Learned.{IsGrounded}
 use Rattle.asp_search.specs.Analysis.{IsCut, IsTaken, IsLearning, IsLearned, IsPassed, IsAdded, Takes, IsRedundant}
 use Rattle.asp_clauses.proofs.LiteralLemmas.{negated-half, negated-negated, negated-lt}
 use Rattle.asp_search.proofs.Trails.{level_at-le, back_to-within, back_to-step, back_to-level, placed_back, unassigned_back}
@@ -16,9 +17,9 @@ use Rattle.asp_search.proofs.Resolution.{learned_follows}
 use Rattle.asp_clauses.proofs.ReorderLemmas.{Contains-place, Contains-at}
 use Rattle.asp_search.proofs.Marking.{same_place, same_place-literal}
 
-module _ (atoms : ℕ) (clauses : List (List ℕ)) (steps : List Step) (lawful : IsLawful atoms clauses steps) (marked : List ℕ) (level place : ℕ) (cut : IsCut clauses steps marked level place) where
+module _ (atoms : ℕ) (base clauses : List (List ℕ)) (steps : List Step) (lawful : IsLawful atoms clauses steps) (grounded : IsGrounded base clauses steps) (marked : List ℕ) (level place : ℕ) (cut : IsCut base steps marked level place) where
   -- the clause begins with the negation of the cut's literal
-  pub IsLearning-start : IsLearning clauses steps marked level place (negated (literal_at steps place) ∷ []) 0 0
+  pub IsLearning-start : IsLearning base clauses steps marked level place (negated (literal_at steps place) ∷ []) 0 0
   IsLearning-start =
       let m = cut.levels (literal_at steps place) cut.is_marked in
       let same : m.place ≡ place = same_place-literal steps lawful.distinct m.place place m.within cut.within m.is in
@@ -43,8 +44,8 @@ module _ (atoms : ℕ) (clauses : List (List ℕ)) (steps : List Step) (lawful :
     low = omega (arith, t.low, up);
   }
 
-  module _ (separate : AreDistinct marked) (done : ℕ) (inside : done < length marked) (old new : List ℕ) (target next : ℕ) (learning : IsLearning clauses steps marked level place old done target) where
-    IsLearning-passed : (p : ℕ) → p < length steps → literal_at steps p ≡ get_or marked done 0 → IsPassed clauses steps marked p level old new target next → IsLearning clauses steps marked level place new (done + 1) next
+  module _ (separate : AreDistinct marked) (done : ℕ) (inside : done < length marked) (old new : List ℕ) (target next : ℕ) (learning : IsLearning base clauses steps marked level place old done target) where
+    IsLearning-passed : (p : ℕ) → p < length steps → literal_at steps p ≡ get_or marked done 0 → IsPassed base clauses steps marked p level old new target next → IsLearning base clauses steps marked level place new (done + 1) next
     IsLearning-passed p within is passed =
         rw (passed.same, passed.kept) (record {
           has = learning.has;
@@ -58,7 +59,7 @@ module _ (atoms : ℕ) (clauses : List (List ℕ)) (steps : List Step) (lawful :
               ⊎_elim
               (λ (h : level ≤ level_at steps p).
               absurd (omega (arith, h, ap (λ (x : ℕ). level_at steps x) same, cut.alone q before (subst (λ (l : ℕ). Contains marked l) (sym there) (subst (λ (i : ℕ). Contains marked (get_or marked i 0)) (sym e) (Contains-at marked done inside))))))
-              (λ (r : IsRedundant clauses steps marked p). inr (subst (λ (x : ℕ). IsRedundant clauses steps marked x) (sym same) r))
+              (λ (r : IsRedundant base clauses steps marked p). inr (subst (λ (x : ℕ). IsRedundant base clauses steps marked x) (sym same) r))
               passed.why)
               (cases_lt k done);
           each = λ a low.
@@ -70,7 +71,7 @@ module _ (atoms : ℕ) (clauses : List (List ℕ)) (steps : List Step) (lawful :
           below = learning.below;
         })
 
-    IsLearning-added : (p : ℕ) → p < length steps → literal_at steps p ≡ get_or marked done 0 → IsAdded steps p (get_or marked done 0) level old new target next → IsLearning clauses steps marked level place new (done + 1) next
+    IsLearning-added : (p : ℕ) → p < length steps → literal_at steps p ≡ get_or marked done 0 → IsAdded steps p (get_or marked done 0) level old new target next → IsLearning base clauses steps marked level place new (done + 1) next
     IsLearning-added p within is added =
         let t = get_or marked done 0 in
         let before_place : p < place = ⊎_elim (λ (b : p < place). b) (λ (u : place ≤ p). absurd (omega (arith, added.lower, cut.at_level, level_at-le steps place p u))) (cases_lt p place) in
@@ -80,7 +81,7 @@ module _ (atoms : ℕ) (clauses : List (List ℕ)) (steps : List Step) (lawful :
               ⊎_elim
               (λ (b : k < done). ⊎_elim
               (λ (c : Contains old (negated (get_or marked k 0))). inl (Contains-append_left old (negated t ∷ []) (negated (get_or marked k 0)) c))
-              (λ (r : IsRedundant clauses steps marked q). inr r)
+              (λ (r : IsRedundant base clauses steps marked q). inr r)
               (learning.treated k q b before there))
               (λ (u : done ≤ k).
               let e : k ≡ done = omega (arith, low, u) in
@@ -117,15 +118,15 @@ module _ (atoms : ℕ) (clauses : List (List ℕ)) (steps : List Step) (lawful :
           below = ⊎_elim (λ (e : next ≡ target). omega (arith, e, learning.below)) (λ (e : next ≡ level_at steps p). omega (arith, e, added.lower)) added.high.one;
         })
 
-    pub IsLearning-more : Takes clauses steps marked (get_or marked done 0) level old new target next → IsLearning clauses steps marked level place new (done + 1) next
+    pub IsLearning-more : Takes base clauses steps marked (get_or marked done 0) level old new target next → IsLearning base clauses steps marked level place new (done + 1) next
     IsLearning-more takes =
         ⊎_elim
-        (λ (h : IsPassed clauses steps marked takes.place level old new target next). IsLearning-passed takes.place takes.within takes.is h)
+        (λ (h : IsPassed base clauses steps marked takes.place level old new target next). IsLearning-passed takes.place takes.within takes.is h)
         (λ (h : IsAdded steps takes.place (get_or marked done 0) level old new target next). IsLearning-added takes.place takes.within takes.is h)
         takes.outcome
 
   -- all marked literals are treated
-  pub IsLearned-from : (learned : List ℕ) (target : ℕ) → IsLearning clauses steps marked level place learned (length marked) target → IsLearned atoms clauses steps learned place target
+  pub IsLearned-from : (learned : List ℕ) (target : ℕ) → IsLearning base clauses steps marked level place learned (length marked) target → IsLearned atoms base steps learned place target
   IsLearned-from learned target learning = record {
     clause = record {
       in_range = λ a within.
@@ -136,11 +137,11 @@ module _ (atoms : ℕ) (clauses : List (List ℕ)) (steps : List Step) (lawful :
           (learning.each a within);
       distinct = learning.distinct;
     };
-    follows = learned_follows atoms clauses steps lawful marked learned place cut.within cut.refutes learning.has (λ p before c.
+    follows = learned_follows atoms base clauses steps lawful grounded marked learned place cut.within cut.refutes learning.has (λ p before c.
         let k = Contains-place marked (literal_at steps p) c in
         ⊎_elim
         (λ (h : Contains learned (negated (get_or marked k.0 0))). inl (subst (λ (l : ℕ). Contains learned (negated l)) k.2 h))
-        (λ (r : IsRedundant clauses steps marked p). inr r)
+        (λ (r : IsRedundant base clauses steps marked p). inr r)
         (learning.treated k.0 p k.1 before (sym k.2)));
     lower = omega (arith, learning.below, cut.at_level);
     code = negated-lt (literal_at steps place) atoms (lawful.in_range place cut.within);
@@ -161,10 +162,10 @@ module _ (atoms : ℕ) (clauses : List (List ℕ)) (steps : List Step) (lawful :
         ⊎_elim
         (λ (e : get_or learned a.0 0 ≡ negated (literal_at steps place)).
         let half : literal_at steps place / 2 ≡ atom = sym (negated-half (literal_at steps place)) ∙ (ap (λ (l : ℕ). l / 2) (sym e ∙ a.2) ∙ m.of_atom) in
-        subst (λ (x : ℕ). Mentions clauses x) half (cut.mentions (literal_at steps place) cut.is_marked))
+        subst (λ (x : ℕ). Mentions base x) half (cut.mentions (literal_at steps place) cut.is_marked))
         (λ (t : IsTaken steps marked place (length marked) target (get_or learned a.0 0)).
         let half : get_or marked t.k 0 / 2 ≡ atom = sym (negated-half (get_or marked t.k 0)) ∙ (ap (λ (l : ℕ). l / 2) (sym t.is ∙ a.2) ∙ m.of_atom) in
-        subst (λ (x : ℕ). Mentions clauses x) half (cut.mentions (get_or marked t.k 0) (Contains-at marked t.k t.before)))
+        subst (λ (x : ℕ). Mentions base x) half (cut.mentions (get_or marked t.k 0) (Contains-at marked t.k t.before)))
         (learning.each a.0 a.1);
   }
 
@@ -176,9 +177,9 @@ placed_higher steps target level literal up p =
     subst (λ (l : ℕ). IsPlaced (back_to level steps) l) read (placed_back level steps p.0 within (omega (arith, back_to-level target steps p.0 p.1, up)))
 
 -- the clause implies its literal too where the trail goes back less far, but behind the literal's level
-pub IsLearned-higher : (atoms : ℕ) (clauses : List (List ℕ)) (steps : List Step) → IsLawful atoms clauses steps → (learned : List ℕ) (place target level : ℕ) → place < length steps → target ≤ level → level < level_at steps place
-    → IsLearned atoms clauses steps learned place target → IsLearned atoms clauses steps learned place level
-IsLearned-higher atoms clauses steps lawful learned place target level within up below l = record {
+pub IsLearned-higher : (atoms : ℕ) (base clauses : List (List ℕ)) (steps : List Step) → IsLawful atoms clauses steps → (learned : List ℕ) (place target level : ℕ) → place < length steps → target ≤ level → level < level_at steps place
+    → IsLearned atoms base steps learned place target → IsLearned atoms base steps learned place level
+IsLearned-higher atoms base clauses steps lawful learned place target level within up below l = record {
   clause = l.clause;
   follows = l.follows;
   lower = below;

@@ -4,6 +4,8 @@ pub mod Resolution
 pub mod Counting
 pub mod SeenTables
 pub mod Marking
+pub mod Basing
+pub mod Grounding
 pub mod LearnedClauses
 pub mod Dropping
 pub mod Minimizing

@@ -8,7 +8,8 @@ use Rattle.std.proofs.lemmas.Bool.Decides.{nat_tests}
 use Rattle.asp_clauses.specs.declared.trail.Step.{Step}
 use Rattle.asp_clauses.specs.Literal.{negated}
 use Rattle.asp_clauses.specs.Trail.{literal_at, step_at, level_at, is_decision, IsFalse, IsLawful, clause_at}
-use Rattle.asp_search.specs.Meaning.{MentionedIn}
+use Rattle.asp_search.specs.Meaning.{MentionedIn, Mentions}
+use Rattle.asp_search.specs.Learned.{Has, IsGrounded}
 use Rattle.asp_search.specs.Analysis.{IsFixed, AreMarked, open_below, AreApart, AtMost, Before, MarksReason, IsTopLevel, IsWalk, IsCut, IsHighest}
 use Rattle.asp_clauses.proofs.LiteralLemmas.{negated-half}
 use Rattle.asp_clauses.proofs.FewLemmas.{not_both}
@@ -127,13 +128,17 @@ IsTopLevel-more steps apart front literal place level at highest within is at_is
       high.one;
 }
 
+-- what one of the clauses mentions, they mention
+pub mentions_based : (base : List (List ℕ)) (clause : List ℕ) (atom : ℕ) → Has base clause → MentionedIn clause atom → Mentions base atom
+mentions_based base clause atom based m = record { number = based.0; within = based.1; mentioned = rw based.2 m }
+
 -- the walk begins with the conflict
-pub IsWalk-start : (atoms : ℕ) (clauses : List (List ℕ)) (steps : List Step) → IsLawful atoms clauses steps → (number level pending : ℕ) (marked : List ℕ) → number < length clauses → IsFalse steps (clause_at clauses number) → IsTopLevel steps (clause_at clauses number) level → 0 < level → MarksReason steps (clause_at clauses number) level [] marked pending → IsWalk clauses steps marked level (length steps) pending
-IsWalk-start atoms clauses steps lawful number level pending marked within fails top decided b =
+pub IsWalk-start : (atoms : ℕ) (base clauses : List (List ℕ)) (steps : List Step) → IsLawful atoms clauses steps → IsGrounded base clauses steps → (number level pending : ℕ) (marked : List ℕ) → Has base (clause_at clauses number) → IsFalse steps (clause_at clauses number) → IsTopLevel steps (clause_at clauses number) level → 0 < level → MarksReason steps (clause_at clauses number) level [] marked pending → IsWalk base steps marked level (length steps) pending
+IsWalk-start atoms base clauses steps lawful grounded number level pending marked based fails top decided b =
     let count : pending ≡ open_below marked steps level (length steps) = omega (arith, b.counts (length steps) (omega arith) (λ l p c inside is. inside), none_open steps level (length steps)) in
     let r = top.reached decided in
     record {
-      refutes = Refutes-conflict atoms clauses steps lawful number marked within fails b.covers;
+      refutes = Refutes-conflict atoms base clauses steps lawful grounded number marked based fails b.covers;
       count = count;
       some = ⊎_elim
           (λ (h : 0 < pending). h)
@@ -150,17 +155,17 @@ IsWalk-start atoms clauses steps lawful number level pending marked within fails
       mentions = λ l c.
           ⊎_elim
           (λ (h : Contains [] l). absurd (omega (arith, h.1)))
-          (λ (m : MentionedIn (clause_at clauses number) (l / 2)). record { number = number; within = within; mentioned = m })
+          (λ (m : MentionedIn (clause_at clauses number) (l / 2)). mentions_based base (clause_at clauses number) (l / 2) based m)
           (b.mentions l c);
     }
 
 -- ---- a step of the walk
 
-module _ (atoms : ℕ) (clauses : List (List ℕ)) (steps : List Step) (lawful : IsLawful atoms clauses steps) (marked : List ℕ) (level place pending : ℕ) (walk : IsWalk clauses steps marked level (suc place) pending) where
+module _ (atoms : ℕ) (base clauses : List (List ℕ)) (steps : List Step) (lawful : IsLawful atoms clauses steps) (grounded : IsGrounded base clauses steps) (marked : List ℕ) (level place pending : ℕ) (walk : IsWalk base steps marked level (suc place) pending) where
   -- a literal that isn't marked is passed over
-  pub IsWalk-passed : (Contains marked (literal_at steps place) → ⊥) → IsWalk clauses steps marked level place pending
+  pub IsWalk-passed : (Contains marked (literal_at steps place) → ⊥) → IsWalk base steps marked level place pending
   IsWalk-passed unmarked = record {
-    refutes = Refutes-passed atoms clauses steps lawful marked [] place unmarked walk.refutes;
+    refutes = Refutes-passed atoms base clauses steps lawful grounded marked [] place unmarked walk.refutes;
     count = omega (arith, walk.count, open_below-passed marked steps level place unmarked);
     some = walk.some;
     within = omega (arith, walk.within);
@@ -180,7 +185,7 @@ module _ (atoms : ℕ) (clauses : List (List ℕ)) (steps : List Step) (lawful :
   marked_count : Contains marked (literal_at steps place) → pending ≡ open_below marked steps level place + 1
   marked_count m = omega (arith, walk.count, open_below-marked marked steps level place m (walk_level m))
 
-  IsCut-none : Contains marked (literal_at steps place) → open_below marked steps level place ≡ 0 → IsCut clauses steps marked level place
+  IsCut-none : Contains marked (literal_at steps place) → open_below marked steps level place ≡ 0 → IsCut base steps marked level place
   IsCut-none m none = record {
     refutes = walk.refutes;
     within = omega (arith, walk.within);
@@ -199,11 +204,11 @@ module _ (atoms : ℕ) (clauses : List (List ℕ)) (steps : List Step) (lawful :
   }
 
   -- nothing else of the level is left
-  pub IsCut-one : Contains marked (literal_at steps place) → pending ≡ 1 → IsCut clauses steps marked level place
+  pub IsCut-one : Contains marked (literal_at steps place) → pending ≡ 1 → IsCut base steps marked level place
   IsCut-one m one = IsCut-none m (omega (arith, one, marked_count m))
 
   -- before a decision nothing is of its level
-  pub IsCut-decision : Contains marked (literal_at steps place) → is_decision (step_at steps place) ≡ true → IsCut clauses steps marked level place
+  pub IsCut-decision : Contains marked (literal_at steps place) → is_decision (step_at steps place) ≡ true → IsCut base steps marked level place
   IsCut-decision m d =
       IsCut-none m (⊎_elim
       (λ (h : 0 < open_below marked steps level place).
@@ -231,12 +236,12 @@ module _ (atoms : ℕ) (clauses : List (List ℕ)) (steps : List Step) (lawful :
       omega (arith, walk_level m, level_at-le steps p place (omega (arith, reason_before number reason l p c inside is)))
 
   -- the literal is resolved with its reason
-  pub IsWalk-resolved : (number newly : ℕ) (more : List ℕ) → (step_at steps place).reason ≡ Some number → Contains marked (literal_at steps place) → pending ≢ 1 → MarksReason steps (clause_at clauses number) level marked more newly → IsWalk clauses steps more level place (pending - 1 + newly)
-  IsWalk-resolved number newly more reason m several b =
+  pub IsWalk-resolved : (number newly : ℕ) (more : List ℕ) → (step_at steps place).reason ≡ Some number → Has base (clause_at clauses number) → Contains marked (literal_at steps place) → pending ≢ 1 → MarksReason steps (clause_at clauses number) level marked more newly → IsWalk base steps more level place (pending - 1 + newly)
+  IsWalk-resolved number newly more reason based m several b =
       let within : place < length steps = omega (arith, walk.within) in
       let r = lawful.reasoned place within number reason in
       record {
-        refutes = Refutes-resolved atoms clauses steps lawful marked more [] place number within reason b.grows b.covers walk.refutes;
+        refutes = Refutes-resolved atoms base clauses steps lawful grounded marked more [] place number within reason based b.grows b.covers walk.refutes;
         count = omega (arith, marked_count m, b.counts place (omega (arith, within)) (reason_before number reason));
         some = omega (arith, several, walk.some);
         within = omega (arith, within);
@@ -244,7 +249,7 @@ module _ (atoms : ℕ) (clauses : List (List ℕ)) (steps : List Step) (lawful :
         mentions = λ l c.
             ⊎_elim
             (λ (h : Contains marked l). walk.mentions l h)
-            (λ (f : MentionedIn (clause_at clauses number) (l / 2)). record { number = number; within = r.0; mentioned = f })
+            (λ (f : MentionedIn (clause_at clauses number) (l / 2)). mentions_based base (clause_at clauses number) (l / 2) based f)
             (b.mentions l c);
       }
 

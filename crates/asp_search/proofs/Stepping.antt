@@ -1,5 +1,5 @@
 -- lemmas on how a step keeps what a search rests on
-use Rattle.std.proofs.Common.{◌≡◌, ℕ, suc, ◌+◌, ◌-◌, ◌*◌, ◌/◌, min, ◌<◌, ◌≤◌, ◌⊎◌, true, false, cond, List, [], ◌∷◌, ◌++◌, length, take, refl, sym, ap, ◌∙◌, subst, ⊎_elim, inl, inr, arith}
+use Rattle.std.proofs.Common.{◌≡◌, ℕ, suc, ◌+◌, ◌-◌, ◌*◌, ◌/◌, min, ◌<◌, ◌≤◌, ◌⊎◌, Bool, true, false, cond, List, [], ◌∷◌, ◌++◌, length, take, refl, sym, ap, ◌∙◌, subst, ⊎_elim, inl, inr, arith}
 use Rattle.std.specs.List.{Contains}
 use Rattle.std.proofs.lemmas.List.{get_or_append_left, get_or_push, length_push, length-take, take_all, get_or-take, ext_get_or, length-append, get_or-append_right}
 use Rattle.std.proofs.lemmas.List.Sums.{sum_by-append, sum_by-cons}
@@ -14,13 +14,17 @@ use Rattle.asp_clauses.specs.Visits.{Extends}
 use Rattle.asp_clauses.proofs.StepsLemmas.{decisions-push_yes, decisions-push_no}
 use Rattle.asp_search.specs.declared.solver.Solver.{Solver}
 use Rattle.asp_search.specs.Meaning.{SameMeaning}
+use Rattle.asp_clauses.specs.declared.kind.Kind.{Kind}
+use Rattle.asp_search.specs.Learned.{IsGround, firm_of}
 use Rattle.asp_search.specs.Cores.{IsCore}
 use Rattle.asp_search.specs.Analysis.{IsTopLevel}
+use Rattle.asp_search.specs.ClauseActivity.{ActivityState, IsLater}
 use Rattle.asp_search.specs.Solver.{DecidesAssumed, IsHeld, IsCursor, IsRewound, IsReady, AreInRange, AreRefuted, Stays}
 use Rattle.asp_search.proofs.Clauses.{SameMeaning-refl, SameMeaning-then, SameMeaning-reordered}
 use Rattle.asp_search.proofs.Trails.{kept_place, back_to-within, back_to-step, decisions-back_to}
 use Rattle.asp_clauses.proofs.ReorderLemmas.{Contains-place}
-use Rattle.asp_search.proofs.Resolution.{fixed_true, false_unsatisfied}
+use Rattle.asp_search.proofs.Resolution.{all_grounded, fixed_true, false_unsatisfied}
+use Rattle.asp_search.proofs.Basing.{SameMeaning-firm_reordered}
 use Rattle.asp_search.proofs.LearnedClauses.{AreLearned-reordered}
 
 -- both lists have the same first steps
@@ -55,6 +59,25 @@ Begins-back level old step = record {
   fits = omega (arith, length_push (back_to level old) step);
   same = λ p h. get_or_append_left (back_to level old) (step ∷ []) no_step p h ∙ back_to-step level old p h;
 }
+
+-- the first steps stay
+pub IsGround-begins : (kinds : List Kind) (old new : List Step) (n looked : ℕ) (loose : Bool) → Begins old new n → ((place : ℕ) → place < looked → place < n) → IsGround kinds old looked loose → IsGround kinds new looked loose
+IsGround-begins kinds old new n looked loose b stay g = record {
+  low = λ place h.
+      let inside = stay place h in
+      (omega (arith, inside, b.fits), level_at-begins old new n place b inside ∙ (g.low place h).1);
+  firm = λ firm place h number is.
+      g.firm firm place h number (ap (λ (s : Step). s.reason) (sym (b.same place (stay place h))) ∙ is);
+}
+
+pub IsGround-append : (kinds : List Kind) (old added : List Step) (looked : ℕ) (loose : Bool) → IsGround kinds old looked loose → IsGround kinds (old ++ added) looked loose
+IsGround-append kinds old added looked loose g =
+    IsGround-begins kinds old (old ++ added) (length old) looked loose (Begins-append old added) (λ place h. (g.low place h).0) g
+
+pub IsGround-back : (kinds : List Kind) (old : List Step) (step : Step) (level looked : ℕ) (loose : Bool) → IsGround kinds old looked loose → IsGround kinds (back_to level old ++ step ∷ []) looked loose
+IsGround-back kinds old step level looked loose g =
+    IsGround-begins kinds old (back_to level old ++ step ∷ []) (length (back_to level old)) looked loose (Begins-back level old step)
+    (λ place h. let low = g.low place h in kept_place level old place low.0 (omega (arith, low.1))) g
 
 -- decisions among the first steps are as before
 decides_before : (assumed : List ℕ) (old new : List Step) (n p : ℕ) → Begins old new n → DecidesAssumed assumed old → p < n → is_decision (step_at new p) ≡ true
@@ -199,11 +222,11 @@ pub refuted_at_zero : (atoms : ℕ) (clauses : List (List ℕ)) (steps : List St
 refuted_at_zero atoms clauses steps lawful number level within fails top zero_level v sat =
     false_unsatisfied v (clause_at clauses number) (sat number within) (λ other c.
     let p = fails other c in
-    fixed_true atoms clauses steps lawful v sat (negated other) (record { place = p.0; within = p.1; is = p.2; low = omega (arith, zero_level, top.most other p.0 c p.1 p.2) }))
+    fixed_true atoms clauses clauses steps lawful (all_grounded atoms clauses steps lawful) v sat (negated other) (record { place = p.0; within = p.1; is = p.2; low = omega (arith, zero_level, top.most other p.0 c p.1 p.2) }))
 
 -- a solver that differs in nothing that matters
-pub IsReady-kept : (old new : Solver) → IsReady old → new.book ≡ old.book → new.trail ≡ old.trail → new.assumed ≡ old.assumed → new.cursor ≡ old.cursor → new.held ≡ old.held → new.seen.codes ≡ old.seen.codes → new.seen.marked ≡ [] → new.heap.atoms ≡ old.heap.atoms → IsReady new
-IsReady-kept old new ready book trail assumed cursor held codes unmarked heap = record {
+pub IsReady-kept : (old new : Solver) → IsReady old → new.book ≡ old.book → new.trail ≡ old.trail → new.assumed ≡ old.assumed → new.cursor ≡ old.cursor → new.held ≡ old.held → new.looked ≡ old.looked → new.ground_loose ≡ old.ground_loose → new.seen.codes ≡ old.seen.codes → new.seen.marked ≡ [] → new.heap.atoms ≡ old.heap.atoms → IsReady new
+IsReady-kept old new ready book trail assumed cursor held looked loose codes unmarked heap = record {
   fitted = record {
     goes = rw (book, trail) ready.fitted.goes;
     few = rw trail ready.fitted.few;
@@ -212,27 +235,43 @@ IsReady-kept old new ready book trail assumed cursor held codes unmarked heap = 
   };
   ranges = rw (book, trail) ready.ranges;
   learned = rw book ready.learned;
+  ground = rw (book, trail, looked, loose) ready.ground;
   unmarked = unmarked;
   assumptions = rw (trail, assumed) ready.assumptions;
   assumed = rw (trail, assumed) ready.assumed;
   cursor = rw (trail, assumed, cursor, held) ready.cursor;
 }
 
+-- an activity that is as it was
+pub IsLater-same : (old new : ActivityState) → new ≡ old → IsLater old new
+IsLater-same old new same = record {
+  total = let e = ap (λ (a : ActivityState). a.total) same in omega (arith, e);
+  interval = let e = ap (λ (a : ActivityState). a.interval) same in omega (arith, e);
+}
+
+pub IsLater-then : (old middle new : ActivityState) → IsLater old middle → IsLater middle new → IsLater old new
+IsLater-then old middle new a b = record {
+  total = omega (arith, a.total, b.total);
+  interval = omega (arith, a.interval, b.interval);
+}
+
 -- nothing that callers see has changed
-pub Stays-kept : (old new : Solver) → IsReady old → new.book ≡ old.book → new.trail ≡ old.trail → new.assumed ≡ old.assumed → new.cursor ≡ old.cursor → new.held ≡ old.held → new.seen.codes ≡ old.seen.codes → new.seen.marked ≡ [] → new.heap.atoms ≡ old.heap.atoms → new.decided ≡ old.decided → Stays old new
-Stays-kept old new ready book trail assumed cursor held codes unmarked heap decided = record {
-  ready = IsReady-kept old new ready book trail assumed cursor held codes unmarked heap;
+pub Stays-kept : (old new : Solver) → IsReady old → new.book ≡ old.book → new.trail ≡ old.trail → new.assumed ≡ old.assumed → new.cursor ≡ old.cursor → new.held ≡ old.held → new.looked ≡ old.looked → new.ground_loose ≡ old.ground_loose → new.seen.codes ≡ old.seen.codes → new.seen.marked ≡ [] → new.heap.atoms ≡ old.heap.atoms → new.decided ≡ old.decided → new.activity ≡ old.activity → Stays old new
+Stays-kept old new ready book trail assumed cursor held looked loose codes unmarked heap decided activity = record {
+  ready = IsReady-kept old new ready book trail assumed cursor held looked loose codes unmarked heap;
   meaning = rw book (SameMeaning-refl old.book.clauses);
+  firm = rw book (SameMeaning-refl (firm_of old.book));
   atoms = ap (λ (t : TrailState). t.atoms) trail;
   budget = ap (λ (t : TrailState). t.budget) trail;
   assumptions = rw assumed refl;
   count = let same = ap (λ (t : TrailState). t.count) trail in omega (arith, same);
   decided = omega (arith, decided);
+  activity = IsLater-same old.activity new.activity activity;
 }
 
 -- one decision more
-pub Stays-decided : (old new : Solver) (step : Step) → IsReady old → Places old.trail new.trail old.trail.steps step → Goes old.book new.trail → new.book ≡ old.book → new.assumed ≡ old.assumed → new.seen ≡ old.seen → new.heap.atoms ≡ old.heap.atoms → DecidesAssumed old.assumed.items (old.trail.steps ++ step ∷ []) → IsCursor old.assumed.items (old.trail.steps ++ step ∷ []) new.cursor new.held → old.decided ≤ new.decided → Stays old new
-Stays-decided old new step ready placed goes book assumed seen heap decides cursor decided = record {
+pub Stays-decided : (old new : Solver) (step : Step) → IsReady old → Places old.trail new.trail old.trail.steps step → Goes old.book new.trail → new.book ≡ old.book → new.assumed ≡ old.assumed → new.looked ≡ old.looked → new.ground_loose ≡ old.ground_loose → new.seen ≡ old.seen → new.heap.atoms ≡ old.heap.atoms → DecidesAssumed old.assumed.items (old.trail.steps ++ step ∷ []) → IsCursor old.assumed.items (old.trail.steps ++ step ∷ []) new.cursor new.held → old.decided ≤ new.decided → new.activity ≡ old.activity → Stays old new
+Stays-decided old new step ready placed goes book assumed looked loose seen heap decides cursor decided activity = record {
   ready = record {
     fitted = record {
       goes = rw book goes;
@@ -242,22 +281,25 @@ Stays-decided old new step ready placed goes book assumed seen heap decides curs
     };
     ranges = rw (placed.atoms, book) ready.ranges;
     learned = rw book ready.learned;
+    ground = rw (book, placed.steps, looked, loose) (IsGround-append old.book.kinds old.trail.steps (step ∷ []) old.looked old.ground_loose ready.ground);
     unmarked = rw seen ready.unmarked;
     assumptions = rw (placed.atoms, assumed) ready.assumptions;
     assumed = rw (assumed, placed.steps) decides;
     cursor = rw (assumed, placed.steps) cursor;
   };
   meaning = rw book (SameMeaning-refl old.book.clauses);
+  firm = rw book (SameMeaning-refl (firm_of old.book));
   atoms = placed.atoms;
   budget = placed.budget;
   assumptions = rw assumed refl;
   count = let more = placed.count in omega (arith, more);
   decided = decided;
+  activity = IsLater-same old.activity new.activity activity;
 }
 
 -- implied literals more
-pub Stays-propagated : (old new : Solver) → IsReady old → Goes new.book new.trail → SameClauses old.book.clauses new.book.clauses → new.book.kinds ≡ old.book.kinds → Extends old.trail new.trail → new.assumed ≡ old.assumed → new.cursor ≡ old.cursor → new.held ≡ old.held → new.seen ≡ old.seen → new.heap ≡ old.heap → new.decided ≡ old.decided → Stays old new
-Stays-propagated old new ready goes clauses kinds extended assumed cursor held seen heap decided =
+pub Stays-propagated : (old new : Solver) → IsReady old → Goes new.book new.trail → SameClauses old.book.clauses new.book.clauses → new.book.kinds ≡ old.book.kinds → Extends old.trail new.trail → new.assumed ≡ old.assumed → new.cursor ≡ old.cursor → new.held ≡ old.held → new.looked ≡ old.looked → new.ground_loose ≡ old.ground_loose → new.seen ≡ old.seen → new.heap ≡ old.heap → new.decided ≡ old.decided → new.activity ≡ old.activity → Stays old new
+Stays-propagated old new ready goes clauses kinds extended assumed cursor held looked loose seen heap decided activity =
     let e = extended.1 in
     record {
       ready = record {
@@ -269,28 +311,33 @@ Stays-propagated old new ready goes clauses kinds extended assumed cursor held s
         };
         ranges = rw e.atoms (AreInRange-reordered old.trail.atoms old.book.clauses new.book.clauses clauses ready.ranges);
         learned = rw kinds (AreLearned-reordered old.book.kinds old.book.clauses new.book.clauses clauses ready.learned);
+        ground = rw (kinds, e.steps, looked, loose) (IsGround-append old.book.kinds old.trail.steps extended.0 old.looked old.ground_loose ready.ground);
         unmarked = rw seen ready.unmarked;
         assumptions = rw (e.atoms, assumed) ready.assumptions;
         assumed = rw (assumed, e.steps) (DecidesAssumed-append old.assumed.items old.trail.steps extended.0 e.implied ready.assumed);
         cursor = rw (assumed, e.steps, cursor, held) (IsCursor-implied old.assumed.items old.trail.steps extended.0 old.cursor old.held (decisions-append-implied old.trail.steps extended.0 e.implied) ready.cursor);
       };
       meaning = SameMeaning-reordered old.book.clauses new.book.clauses clauses;
+      firm = rw kinds (SameMeaning-firm_reordered old.book.kinds old.book.clauses new.book.clauses ready.learned.as_many clauses);
       atoms = e.atoms;
       budget = e.budget;
       assumptions = rw assumed refl;
       count = let more = e.count in omega (arith, more);
       decided = omega (arith, decided);
+      activity = IsLater-same old.activity new.activity activity;
     }
 
 pub Stays-then : (old middle new : Solver) → Stays old middle → Stays middle new → Stays old new
 Stays-then old middle new a b = record {
   ready = b.ready;
   meaning = SameMeaning-then old.book.clauses middle.book.clauses new.book.clauses a.meaning b.meaning;
+  firm = SameMeaning-then (firm_of old.book) (firm_of middle.book) (firm_of new.book) a.firm b.firm;
   atoms = b.atoms ∙ a.atoms;
   budget = b.budget ∙ a.budget;
   assumptions = b.assumptions ∙ a.assumptions;
   count = omega (arith, a.count, b.count);
   decided = omega (arith, a.decided, b.decided);
+  activity = IsLater-then old.activity middle.activity new.activity a.activity b.activity;
 }
 
 -- a core of clauses with the same meaning

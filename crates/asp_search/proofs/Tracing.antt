@@ -14,7 +14,7 @@ use Rattle.asp_search.specs.Solver.{AreAssumptions, DecidesAssumed}
 use Rattle.asp_clauses.proofs.LiteralLemmas.{negated-half, negated-≢}
 use Rattle.asp_search.proofs.Truth.{Contains-cases, true-negated}
 use Rattle.asp_search.proofs.Trails.{has_reason, placed_before}
-use Rattle.asp_search.proofs.Resolution.{fixed_true, Refutes-resolved, Refutes-kept}
+use Rattle.asp_search.proofs.Resolution.{all_grounded, fixed_true, Refutes-resolved, Refutes-kept}
 use Rattle.asp_clauses.proofs.ReorderLemmas.{Contains-place}
 use Rattle.asp_clauses.proofs.FewLemmas.{not_both}
 use Rattle.asp_search.proofs.Marking.{same_place}
@@ -30,7 +30,7 @@ module _ (atoms : ℕ) (clauses : List (List ℕ)) (steps : List Step) (lawful :
       none = λ v sat seen kept.
           let holds : truth v failed ≡ true = kept failed (0, omega arith, refl) in
           let fails : truth v (negated failed) ≡ true = ⊎_elim
-          (λ (f : IsFixed steps (negated failed)). fixed_true atoms clauses steps lawful v sat (negated failed) f)
+          (λ (f : IsFixed steps (negated failed)). fixed_true atoms clauses clauses steps lawful (all_grounded atoms clauses steps lawful) v sat (negated failed) f)
           (λ (m : Contains marked (negated failed)). subst (λ (l : ℕ). truth v l ≡ true) placed.2 (seen placed.0 placed.1 placed.1 (subst (λ (l : ℕ). Contains marked l) (sym placed.2) m)))
           (b.covers failed (0, omega arith, refl) placed) in
           true-negated v failed fails holds;
@@ -54,7 +54,7 @@ module _ (atoms : ℕ) (clauses : List (List ℕ)) (steps : List Step) (lawful :
     IsTrace-resolved number newly more reason b =
         let r = lawful.reasoned place within number reason in
         record {
-          refutes = Refutes-resolved atoms clauses steps lawful marked more core place number within reason b.grows b.covers trace.refutes;
+          refutes = Refutes-resolved atoms clauses clauses steps lawful (all_grounded atoms clauses steps lawful) marked more core place number within reason (number, r.0, refl) b.grows b.covers trace.refutes;
           levels = b.marked;
           some = trace.some;
           mentions = λ literal c.
@@ -74,7 +74,7 @@ module _ (atoms : ℕ) (clauses : List (List ℕ)) (steps : List Step) (lawful :
 
     pub IsTrace-kept : Contains marked (literal_at steps place) → is_decision (step_at steps place) ≡ true → IsTrace clauses steps marked place (core ++ literal_at steps place ∷ [])
     IsTrace-kept m decided = record {
-      refutes = Refutes-kept atoms clauses steps lawful marked core place trace.refutes;
+      refutes = Refutes-kept atoms clauses clauses steps lawful (all_grounded atoms clauses steps lawful) marked core place trace.refutes;
       levels = trace.levels;
       some = omega (arith, length_push core (literal_at steps place));
       mentions = λ literal c. rw first-push (trace.mentions literal c);

@@ -5,6 +5,7 @@ use Rattle.asp_clauses.specs.declared.trail.Step.{Step}
 use Rattle.asp_clauses.specs.Literal.{negated}
 use Rattle.asp_clauses.specs.Trail.{IsPlaced, IsUnassigned, Implies, clause_at, step_at, literal_at, level_at, back_to}
 use Rattle.asp_clauses.specs.Book.{IsClause}
+use Rattle.asp_search.specs.Learned.{Has}
 use Rattle.asp_search.specs.Meaning.{truth, Satisfies, SatisfiesAll, AllTrue, MentionedIn, Mentions}
 
 -- whether the literal stands in the list
@@ -48,10 +49,11 @@ open_below marked steps level zero = 0
 open_below marked steps level (suc place) =
     (if is_member marked (literal_at steps place) && (level_at steps place == level) then 1 else 0) + open_below marked steps level place
 
--- the literal at the place is implied by fixed and marked ones
-pub record IsRedundant (clauses : List (List ℕ)) (steps : List Step) (marked : List ℕ) (place : ℕ) : Type 0 where
+-- the literal at the place is implied by fixed and marked ones, through a clause of the base
+pub record IsRedundant (base clauses : List (List ℕ)) (steps : List Step) (marked : List ℕ) (place : ℕ) : Type 0 where
   pub number : ℕ
   pub reason : (step_at steps place).reason ≡ Some number
+  pub based : Has base (clause_at clauses number)
   pub others : (other : ℕ) → Contains (clause_at clauses number) other → other ≢ literal_at steps place
       → IsFixed steps (negated other) ⊎ Contains marked (negated other)
 
@@ -118,10 +120,10 @@ pub record IsHighest (a b highest : ℕ) : Type 0 where
   pub one : (highest ≡ a) ⊎ (highest ≡ b)
 
 -- a marked literal adds nothing
-pub record IsPassed (clauses : List (List ℕ)) (steps : List Step) (marked : List ℕ) (place level : ℕ) (old new : List ℕ) (target next : ℕ) : Type 0 where
+pub record IsPassed (base clauses : List (List ℕ)) (steps : List Step) (marked : List ℕ) (place level : ℕ) (old new : List ℕ) (target next : ℕ) : Type 0 where
   pub same : new ≡ old
   pub kept : next ≡ target
-  pub why : (level ≤ level_at steps place) ⊎ IsRedundant clauses steps marked place
+  pub why : (level ≤ level_at steps place) ⊎ IsRedundant base clauses steps marked place
 
 -- its negation is added
 pub record IsAdded (steps : List Step) (place literal level : ℕ) (old new : List ℕ) (target next : ℕ) : Type 0 where
@@ -130,11 +132,11 @@ pub record IsAdded (steps : List Step) (place literal level : ℕ) (old new : Li
   pub lower : level_at steps place < level
 
 -- what a marked literal does to the clause that is being learned
-pub record Takes (clauses : List (List ℕ)) (steps : List Step) (marked : List ℕ) (literal level : ℕ) (old new : List ℕ) (target next : ℕ) : Type 0 where
+pub record Takes (base clauses : List (List ℕ)) (steps : List Step) (marked : List ℕ) (literal level : ℕ) (old new : List ℕ) (target next : ℕ) : Type 0 where
   pub place : ℕ
   pub within : place < length steps
   pub is : literal_at steps place ≡ literal
-  pub outcome : IsPassed clauses steps marked place level old new target next ⊎ IsAdded steps place literal level old new target next
+  pub outcome : IsPassed base clauses steps marked place level old new target next ⊎ IsAdded steps place literal level old new target next
 
 -- the literal is the negation of a marked one that stands before the place, at most of the target's level
 pub record IsTaken (steps : List Step) (marked : List ℕ) (place done target literal : ℕ) : Type 0 where
@@ -147,10 +149,10 @@ pub record IsTaken (steps : List Step) (marked : List ℕ) (place done target li
   pub low : level_at steps at ≤ target
 
 -- the negations of the cut's literal and of marked ones, of which the first `done` are treated
-pub record IsLearning (clauses : List (List ℕ)) (steps : List Step) (marked : List ℕ) (level place : ℕ) (learned : List ℕ) (done target : ℕ) : Type 0 where
+pub record IsLearning (base clauses : List (List ℕ)) (steps : List Step) (marked : List ℕ) (level place : ℕ) (learned : List ℕ) (done target : ℕ) : Type 0 where
   pub has : Contains learned (negated (literal_at steps place))
   pub treated : (k p : ℕ) → k < done → p < place → literal_at steps p ≡ slice_index marked k
-      → Contains learned (negated (slice_index marked k)) ⊎ IsRedundant clauses steps marked p
+      → Contains learned (negated (slice_index marked k)) ⊎ IsRedundant base clauses steps marked p
   pub each : (a : ℕ) → a < length learned → (slice_index learned a ≡ negated (literal_at steps place)) ⊎ IsTaken steps marked place done target (slice_index learned a)
   pub distinct : (a b : ℕ) → a < b → b < length learned → slice_index learned a / 2 ≢ slice_index learned b / 2
   pub below : target < level

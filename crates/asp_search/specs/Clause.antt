@@ -4,7 +4,7 @@ use Rattle.std.specs.List.{Contains}
 use Rattle.asp_clauses.specs.Literal.{negated}
 use Rattle.asp_search.specs.declared.solver.Solver.{Solver}
 use Rattle.asp_clauses.specs.Book.{Goes}
-use Rattle.asp_search.specs.Learned.{AreLearned}
+use Rattle.asp_search.specs.Learned.{AreLearned, IsGround}
 use Rattle.asp_search.specs.Solver.{IsReady, AreInRange}
 
 -- both literals of an atom stand in the clause
@@ -28,9 +28,13 @@ pub record KeepsBook (old new : Solver) : Type 0 where
   pub assumed : new.assumed ≡ old.assumed
   pub cursor : new.cursor ≡ old.cursor
   pub held : new.held ≡ old.held
+  pub looked : new.looked ≡ old.looked
+  pub ground_loose : new.ground_loose ≡ old.ground_loose
+  pub ground : IsGround new.book.kinds old.trail.steps old.looked old.ground_loose
   pub codes : new.seen.codes ≡ old.seen.codes
   pub heap : new.heap ≡ old.heap
   pub decided : new.decided ≡ old.decided
+  pub activity : new.activity ≡ old.activity
 
 -- only the clauses have changed
 pub record KeepsAll (old new : Solver) : Type 0 where
@@ -38,3 +42,4 @@ pub record KeepsAll (old new : Solver) : Type 0 where
   pub trail : new.trail ≡ old.trail
   pub assumed : new.assumed ≡ old.assumed
   pub decided : new.decided ≡ old.decided
+  pub activity : new.activity ≡ old.activity

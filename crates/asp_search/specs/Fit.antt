@@ -4,7 +4,7 @@ use Rattle.asp_clauses.specs.Literal.{most_atoms}
 use Rattle.asp_clauses.specs.Trail.{TrailState}
 use Rattle.asp_clauses.specs.Book.{BookState, Goes}
 use Rattle.asp_search.specs.Seen.{SeenSet}
-use Rattle.asp_search.specs.DecisionHeap.{HeapState}
+use Rattle.asp_decide.specs.DecisionHeap.{HeapState}
 
 pub record AreFitted (book : BookState) (trail : TrailState) (seen : SeenSet) (heap : HeapState) : Type 0 where
   pub goes : Goes book trail

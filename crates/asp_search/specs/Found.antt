@@ -16,10 +16,6 @@ literals_of steps = map (λ (s : Step). s.literal) steps
 abbrev pub assignment_of : List ℕ → ℕ → Bool
 assignment_of literals atom = is_member literals (2 * atom + 1)
 
--- each atom has a value
-abbrev pub IsTotal : ℕ → List Step → Type 0
-IsTotal atoms steps = (atom : ℕ) → atom < atoms → IsPlaced steps (2 * atom + 1) ⊎ IsPlaced steps (2 * atom)
-
 -- the next assumption to decide, which isn't true yet
 pub record IsNext (solver : Solver) (literal : ℕ) : Type 0 where
   pub within : solver.cursor < length solver.assumed.items
@@ -44,3 +40,4 @@ pub record MovesCursor (old new : Solver) : Type 0 where
   pub trail : new.trail ≡ old.trail
   pub assumed : new.assumed ≡ old.assumed
   pub decided : new.decided ≡ old.decided
+  pub activity : new.activity ≡ old.activity

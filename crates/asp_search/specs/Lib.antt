@@ -1,7 +1,7 @@
 pub mod Meaning
 pub mod Analysis
 pub mod Seen
-pub mod DecisionHeap
+pub mod ClauseActivity
 pub mod Minimize
 pub mod Learned
 pub mod Fit

@@ -2,6 +2,7 @@
 use Rattle.std.specs.Prelude.{◌≡◌, ◌≢◌, None}
 use Rattle.asp_search.specs.declared.stage.Stage.TheVariants.{New, Begun, Found, Spent}
 use Rattle.asp_search.specs.declared.search.Search.TheInside.{Inside}
+use Rattle.asp_search.specs.Learned.{firm_of}
 use Rattle.asp_search.specs.Solver.{IsReady}
 use Rattle.asp_search.specs.Found.{literals_of, IsSatisfied}
 use Rattle.asp_search.specs.State.{SearchState}
@@ -12,11 +13,14 @@ state_of s = record {
   budget = s.solver.trail.budget;
   count = s.solver.trail.count;
   clauses = s.solver.book.clauses;
+  firm = firm_of s.solver.book;
   assumed = s.solver.assumed.items;
   trail = literals_of s.solver.trail.steps;
   ordered = s.ordered;
   stage = s.stage;
   decisions = s.solver.decided;
+  conflicts = s.solver.activity.total;
+  interval = s.solver.activity.interval;
 }
 
 pub record IsSound (s : Inside) : Type 0 where

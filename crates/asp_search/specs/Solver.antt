@@ -6,8 +6,9 @@ use Rattle.asp_clauses.specs.Trail.{IsPlaced, step_at, literal_at, level_at, is_
 use Rattle.asp_search.specs.declared.solver.Solver.{Solver}
 use Rattle.asp_search.specs.Meaning.{SatisfiesAll, SameMeaning}
 use Rattle.asp_search.specs.Seen.{AreCodes}
-use Rattle.asp_search.specs.Learned.{AreLearned}
+use Rattle.asp_search.specs.Learned.{AreLearned, IsGround, firm_of}
 use Rattle.asp_search.specs.Fit.{AreFitted}
+use Rattle.asp_search.specs.ClauseActivity.{IsLater}
 
 -- codes in range, and no atom twice
 pub record AreAssumptions (atoms : ℕ) (assumed : List ℕ) : Type 0 where
@@ -48,6 +49,7 @@ pub record IsReady (solver : Solver) : Type 0 where
   pub fitted : AreFitted solver.book solver.trail solver.seen solver.heap
   pub ranges : AreInRange solver.trail.atoms solver.book.clauses
   pub learned : AreLearned solver.book.kinds solver.book.clauses
+  pub ground : IsGround solver.book.kinds solver.trail.steps solver.looked solver.ground_loose
   pub unmarked : solver.seen.marked ≡ []
   pub assumptions : AreAssumptions solver.trail.atoms solver.assumed.items
   pub assumed : DecidesAssumed solver.assumed.items solver.trail.steps
@@ -57,11 +59,13 @@ pub record IsReady (solver : Solver) : Type 0 where
 pub record Stays (old new : Solver) : Type 0 where
   pub ready : IsReady new
   pub meaning : SameMeaning old.book.clauses new.book.clauses
+  pub firm : SameMeaning (firm_of old.book) (firm_of new.book)
   pub atoms : new.trail.atoms ≡ old.trail.atoms
   pub budget : new.trail.budget ≡ old.trail.budget
   pub assumptions : new.assumed.items ≡ old.assumed.items
   pub count : old.trail.count ≤ new.trail.count
   pub decided : old.decided ≤ new.decided
+  pub activity : IsLater old.activity new.activity
 
 -- no assignment satisfies the clauses
 abbrev pub AreRefuted : List (List ℕ) → Type 0

@@ -7,19 +7,23 @@ use Rattle.asp_search.specs.declared.stage.Stage.TheVariants.{New, Begun, Found,
 use Rattle.asp_search.specs.Meaning.{SatisfiesAll, AllTrue, AddsClause, SameMeaning}
 use Rattle.asp_search.specs.Found.{assignment_of}
 
--- `clauses` has the meaning of the added ones; `trail` has the literals that are true, in the order in which they were
+-- `clauses` has the meaning of the added ones that hold, `firm` that of the firm ones among them; `trail` has the literals that are true, in the order in which they were
 -- placed; `count` is how many were placed since the search began, `decisions` how many were decided since it was made;
+-- `conflicts` is how many conflicts taught a clause since then, and `interval` after how many learned clauses are dropped next;
 -- `ordered` is how `next` was asked since the search began, none before its first call
 pub record SearchState : Type 0 where
   pub atoms : ℕ
   pub budget : ℕ
   pub count : ℕ
   pub clauses : List (List ℕ)
+  pub firm : List (List ℕ)
   pub assumed : List ℕ
   pub trail : List ℕ
   pub ordered : Option Bool
   pub stage : Stage
   pub decisions : ℕ
+  pub conflicts : ℕ
+  pub interval : ℕ
 
 -- no clause, no assumption, no search; there are few enough atoms for their literals to have codes
 pub record IsFresh (search : SearchState) (atoms budget : ℕ) : Type 0 where
@@ -28,11 +32,13 @@ pub record IsFresh (search : SearchState) (atoms budget : ℕ) : Type 0 where
   pub budget_is : search.budget ≡ budget
   pub count : search.count ≡ 0
   pub clauses : search.clauses ≡ []
+  pub firm : search.firm ≡ []
   pub assumed : search.assumed ≡ []
   pub trail : search.trail ≡ []
   pub ordered : search.ordered ≡ None
   pub stage : search.stage ≡ New
   pub decisions : search.decisions ≡ 0
+  pub conflicts : search.conflicts ≡ 0
 
 -- after a clause was added an answer may be another one
 abbrev pub stage_after_add : Stage → Stage
@@ -46,6 +52,12 @@ stage_after_add NoMemory = NoMemory
 -- the clause is added, and nothing else changes
 pub record Adds (old new : SearchState) (clause : List ℕ) : Type 0 where
   pub clauses : AddsClause old.clauses new.clauses clause
+  pub firm : AddsClause old.firm new.firm clause
+  pub rest : new ≡ record old { clauses = new.clauses; firm = new.firm; stage = stage_after_add old.stage }
+
+-- the clause is added as a loose one, and nothing else changes
+pub record AddsLoose (old new : SearchState) (clause : List ℕ) : Type 0 where
+  pub clauses : AddsClause old.clauses new.clauses clause
   pub rest : new ≡ record old { clauses = new.clauses; stage = stage_after_add old.stage }
 
 -- no atom twice
@@ -57,9 +69,12 @@ pub record GoesOn (old new : SearchState) : Type 0 where
   pub atoms : new.atoms ≡ old.atoms
   pub budget : new.budget ≡ old.budget
   pub clauses : SameMeaning old.clauses new.clauses
+  pub firm : SameMeaning old.firm new.firm
   pub assumed : new.assumed ≡ old.assumed
   pub count : old.count ≤ new.count
   pub decisions : old.decisions ≤ new.decisions
+  pub conflicts : old.conflicts ≤ new.conflicts
+  pub interval : old.interval ≤ new.interval
 
 -- each atom has a value; clauses and assumptions hold
 pub record IsFound (search : SearchState) : Type 0 where

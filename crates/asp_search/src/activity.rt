@@ -1,11 +1,13 @@
 //! What tells which learned clauses are dropped: how active each clause was, and how many decision levels it has.
 //!
-//! Nothing but speed rests on these numbers, so no contract speaks of them.
+//! Nothing but speed rests on activities, so contracts say only what callers read.
 
-ghost use Rattle.std.specs.Prelude.{◌≡◌, ◌+◌, ◌<◌, ◌≤◌, ◌^◌};
+ghost use Rattle.std.specs.Prelude.{◌≡◌, ◌+◌, ◌<◌, ◌≤◌, ◌^◌, true, false};
+ghost use Rattle.asp_search.specs.ClauseActivity.{IsLater};
 
 use crate::NoMemory;
 use std::alloc::Global;
+use std::marker::Model;
 
 /// Where an activity passes this, all are scaled down.
 const CEILING: u64 = 1 << 56;
@@ -17,10 +19,10 @@ const SCALE: u32 = 40;
 const FIRST_BUMP: u64 = 1 << 16;
 
 /// After so many conflicts learned clauses are dropped for the first time.
-const FIRST_INTERVAL: u64 = 2000;
+const FIRST_INTERVAL: u64 = 500;
 
 /// Each interval is longer than the one before by this part of it.
-const GROWTH: u64 = 8;
+const GROWTH: u64 = 32;
 
 /// The activities of clauses by number, and when learned clauses are dropped next.
 #[derive(Drop)]
@@ -36,9 +38,19 @@ pub struct ClauseActivity {
     interval: u64,
 }
 
+impl Model for ClauseActivity {
+    ghost use Rattle.asp_search.specs.ClauseActivity.{ActivityState};
+
+    ghost Value = { ActivityState };
+
+    ghost view = { λ o. record { total = o.total; interval = o.interval } };
+}
+
 impl ClauseActivity {
     /// No clause was active yet.
-    pub fn new(alloc: Global) -> ClauseActivity {
+    pub fn new(alloc: Global) -> ClauseActivity
+        ensures { result.total ≡ 0 }
+    {
         ClauseActivity {
             activities: Vec::new(alloc),
             bump: FIRST_BUMP,
@@ -49,7 +61,9 @@ impl ClauseActivity {
     }
 
     /// Makes the clause more active.
-    pub fn bump(&mut self, clause: u32) {
+    pub fn bump(&mut self, clause: u32)
+        ensures { self.new ≡ self.old }
+    {
         let mut passed = false;
         if let Some(activity) = self.activities.get_mut(clause as usize) {
             *activity = activity.saturating_add(self.bump);
@@ -61,7 +75,9 @@ impl ClauseActivity {
     }
 
     /// Divides all activities.
-    fn scale_down(&mut self) {
+    fn scale_down(&mut self)
+        ensures { self.new ≡ self.old }
+    {
         for activity in self.activities.iter_mut() {
             *activity >>= SCALE;
         }
@@ -70,7 +86,9 @@ impl ClauseActivity {
 
     /// Lists a new clause as one of the last conflict, and makes later bumps count more: so all activities decay by a
     /// factor of 0.999, as they do in minisat. `NoMemory`: memory was refused; the clause isn't listed.
-    pub fn list(&mut self, clause: u32) -> Result<(), NoMemory> {
+    pub fn list(&mut self, clause: u32) -> Result<(), NoMemory>
+        ensures { IsLater self.old self.new }
+    {
         self.total = self.total.saturating_add(1);
         self.conflicts = self.conflicts.saturating_add(1);
         for _place in self.activities.len()..clause as usize {
@@ -92,17 +110,23 @@ impl ClauseActivity {
     }
 
     /// How many conflicts taught a clause.
-    pub fn total(&self) -> u64 {
+    pub fn total(&self) -> u64
+        ensures { result ≡ self.now.total }
+    {
         self.total
     }
 
     /// After so many conflicts learned clauses are dropped next.
-    pub fn set_interval(&mut self, interval: u64) {
+    pub fn set_interval(&mut self, interval: u64)
+        ensures { self.new ≡ record self.old { interval = interval } }
+    {
         self.interval = interval;
     }
 
     /// Whether learned clauses are to be dropped now; if so, the next interval begins.
-    pub fn is_due(&mut self) -> bool {
+    pub fn is_due(&mut self) -> bool
+        ensures { IsLater self.old self.new }
+    {
         if self.conflicts < self.interval {
             return false;
         }
@@ -112,7 +136,9 @@ impl ClauseActivity {
     }
 
     /// Gives the activities of the clauses that stayed their new numbers.
-    pub fn compact(&mut self, stayed: &[bool]) {
+    pub fn compact(&mut self, stayed: &[bool])
+        ensures { self.new ≡ self.old }
+    {
         let mut next = 0;
         for clause in 0..self.activities.len() {
             if let Some(true) = stayed.get(clause) {

@@ -1,20 +1,21 @@
 //! Why a clause is false: the conflict is resolved with the reasons of its literals, from the last one back, until
 //! one literal of its level is left, the first unique implication point. Marks say which literals stand in the resolvent.
 
-ghost use Rattle.std.specs.Prelude.{◌≡◌, ◌≢◌, ℕ, suc, ◌+◌, ◌*◌, ◌/◌, ◌<◌, ◌≤◌, ◌^◌, ◌↔◌, ◌⊎◌, [], ◌∷◌, length, IsTrue, IfOk, OnOk, MatchOption, slice_index};
+ghost use Rattle.std.specs.Prelude.{◌≡◌, ◌≢◌, ℕ, suc, ◌+◌, ◌*◌, ◌/◌, ◌<◌, ◌≤◌, ◌^◌, ◌↔◌, ◌⊎◌, [], ◌∷◌, length, true, false, IsTrue, IfOk, OnOk, MatchOption, slice_index};
 ghost use Rattle.std.specs.List.{Contains};
 ghost use Rattle.asp_clauses.specs.Literal.{negated};
 ghost use Rattle.asp_clauses.specs.Trail.{IsFalse, IsPlaced, StandsAt, clause_at, literal_at, level_at, step_at};
 ghost use Rattle.asp_clauses.specs.Book.{Goes};
+ghost use Rattle.asp_search.specs.Learned.{Has, base_of, IsBased, IsGrounded};
 ghost use Rattle.asp_search.specs.Analysis.{AreApart, AreMarked, AtMost, MarksReason, IsTopLevel, IsWalk, IsCut, IsLearned, IsRedundant, IsFixed, Takes};
 ghost use Rattle.asp_search.specs.Fit.{AreFitted, AreKept};
 
 use crate::NoMemory;
 use crate::activity::{ClauseActivity, LevelCount};
-use crate::decide::DecisionHeap;
 use crate::seen::Seen;
 use crate::solver::{is_true, opposite};
 use asp_clauses::{Book, Trail};
+use asp_decide::DecisionHeap;
 
 /// The highest level of the literals that make a clause false; 0 where it is false from the start.
 pub fn conflict_level(book: &Book, trail: &Trail, conflict: u32) -> u32
@@ -101,13 +102,17 @@ fn resolve(
     place: u32,
     pending: usize,
     level: u32,
+    loose: bool,
 ) -> Result<Option<usize>, NoMemory>
     requires fitted { AreFitted book.now trail.now seen.old heap.old }
-    requires walk { IsWalk book.now.clauses trail.now.steps seen.old.marked level (suc place) pending }
+    requires grounded { IsGrounded (base_of book.now loose) book.now.clauses trail.now.steps }
+    requires based { IsBased (base_of book.now loose) book.now.clauses trail.now.steps seen.old.marked place pending }
+    requires walk { IsWalk (base_of book.now loose) trail.now.steps seen.old.marked level (suc place) pending }
     ensures kept { AreKept seen.old heap.old seen.new heap.new }
+    ensures activity { activity.new ≡ activity.old }
     ensures walk { IfOk result (λ rest. MatchOption rest
-        (IsCut book.now.clauses trail.now.steps seen.new.marked level place)
-        (λ left. IsWalk book.now.clauses trail.now.steps seen.new.marked level place left)) }
+        (IsCut (base_of book.now loose) trail.now.steps seen.new.marked level place)
+        (λ left. IsWalk (base_of book.now loose) trail.now.steps seen.new.marked level place left)) }
 {
     let literal = trail.at(place);
     if !seen.contains(literal) {
@@ -125,11 +130,53 @@ fn resolve(
     Ok(Some(pending - 1 + newly))
 }
 
-/// Resolves a conflict down to one literal of its level, and answers the place of that one.
+/// Whether a derivation is loose that uses the clause: it was before, or the clause is.
+fn loosened_by(book: &Book, clause: u32, loose: bool) -> bool
+    requires { clause < length book.now.clauses }
+    ensures grows { loose ≡ true → result ≡ true }
+    ensures based { Has (base_of book.now result) (clause_at book.now.clauses clause) }
+{
+    if loose {
+        return true;
+    }
+    book.kind(clause).loose
+}
+
+/// Whether a derivation is loose once the literal at the place is resolved, where it is to be.
+fn loosened(
+    seen: &Seen,
+    book: &Book,
+    trail: &Trail,
+    place: u32,
+    pending: usize,
+    loose: bool,
+) -> bool
+    requires goes { Goes book.now trail.now }
+    requires codes { seen.now.codes ≡ 2 * trail.now.atoms }
+    requires within { place < length trail.now.steps }
+    ensures grows { loose ≡ true → result ≡ true }
+    ensures based { IsBased (base_of book.now result) book.now.clauses trail.now.steps seen.now.marked place pending }
+{
+    let literal = trail.at(place);
+    if !seen.contains(literal) {
+        return loose;
+    }
+    if pending == 1 {
+        return loose;
+    }
+    match trail.reason(literal / 2) {
+        Some(reason) => loosened_by(book, reason, loose),
+        None => loose,
+    }
+}
+
+/// Resolves a conflict down to one literal of its level, and answers the place of that one. `loose` becomes true where
+/// a loose clause is used.
 pub fn resolve_conflict(
     seen: &mut Seen,
     heap: &mut DecisionHeap,
     activity: &mut ClauseActivity,
+    loose: &mut bool,
     book: &Book,
     trail: &Trail,
     conflict: u32,
@@ -141,19 +188,37 @@ pub fn resolve_conflict(
     requires fails { IsFalse trail.now.steps (clause_at book.now.clauses conflict) }
     requires top { IsTopLevel trail.now.steps (clause_at book.now.clauses conflict) level }
     requires decided { 0 < level }
+    requires grounded { IsGrounded (base_of book.now loose.old) book.now.clauses trail.now.steps }
     ensures kept { AreKept seen.old heap.old seen.new heap.new }
-    ensures cut { IfOk result (λ place. IsCut book.now.clauses trail.now.steps seen.new.marked level place) }
+    ensures activity { activity.new ≡ activity.old }
+    ensures grounded { IfOk result (λ _. IsGrounded (base_of book.now loose.new) book.now.clauses trail.now.steps) }
+    ensures cut { IfOk result (λ place. IsCut (base_of book.now loose.new) trail.now.steps seen.new.marked level place) }
 {
+    *loose = loosened_by(book, conflict, *loose);
     activity.bump(conflict);
     let mut pending = mark_reason(seen, heap, book, trail, conflict, level)?;
     let mut end = trail.len();
     loop {
         end -= 1;
-        match resolve(seen, heap, activity, book, trail, end, pending, level)? {
+        *loose = loosened(seen, book, trail, end, pending, *loose);
+        match resolve(
+            seen, heap, activity, book, trail, end, pending, level, *loose,
+        )? {
             Some(left) => pending = left,
             None => return Ok(end),
         }
     }
+}
+
+/// Whether the clause can't be used, since it is loose and the derivation isn't.
+pub fn is_barred(book: &Book, clause: u32, loose: bool) -> bool
+    requires { clause < length book.now.clauses }
+    ensures { result ≡ false → Has (base_of book.now loose) (clause_at book.now.clauses clause) }
+{
+    if loose {
+        return false;
+    }
+    book.kind(clause).loose
 }
 
 /// Whether another literal of a reason is false by what is marked, or placed before the first decision.
@@ -175,19 +240,23 @@ fn is_excused(seen: &Seen, trail: &Trail, literal: u32, other: u32) -> bool
     trail.level(cause / 2) == 0
 }
 
-/// Whether the literal is implied by others that are marked, or placed before the first decision.
-fn is_redundant(seen: &Seen, book: &Book, trail: &Trail, literal: u32) -> bool
+/// Whether the literal is implied by others that are marked, or placed before the first decision; by a loose clause only
+/// where the derivation is loose.
+fn is_redundant(seen: &Seen, book: &Book, trail: &Trail, literal: u32, loose: bool) -> bool
     requires goes { Goes book.now trail.now }
     requires codes { seen.now.codes ≡ 2 * trail.now.atoms }
     requires placed { IsPlaced trail.now.steps literal }
     ensures { IsTrue result
         → (place : ℕ) → place < length trail.now.steps → literal_at trail.now.steps place ≡ literal
-        → IsRedundant book.now.clauses trail.now.steps seen.now.marked place }
+        → IsRedundant (base_of book.now loose) book.now.clauses trail.now.steps seen.now.marked place }
 {
     let reason = match trail.reason(literal / 2) {
         Some(reason) => reason,
         None => return false,
     };
+    if is_barred(book, reason, loose) {
+        return false;
+    }
     for other in book.lits(reason) {
         if !is_excused(seen, trail, literal, *other) {
             return false;
@@ -206,18 +275,19 @@ fn take_marked(
     literal: u32,
     level: u32,
     target: u32,
+    loose: bool,
 ) -> Result<u32, NoMemory>
     requires goes { Goes book.now trail.now }
     requires codes { seen.now.codes ≡ 2 * trail.now.atoms }
     requires placed { IsPlaced trail.now.steps literal }
     ensures { IfOk result (λ next.
-        Takes book.now.clauses trail.now.steps seen.now.marked literal level learned.old.items learned.new.items target next) }
+        Takes (base_of book.now loose) book.now.clauses trail.now.steps seen.now.marked literal level learned.old.items learned.new.items target next) }
 {
     let at = trail.level(literal / 2);
     if at >= level {
         return Ok(target);
     }
-    if is_redundant(seen, book, trail, literal) {
+    if is_redundant(seen, book, trail, literal, loose) {
         return Ok(target);
     }
     learned.push(opposite(literal))?;
@@ -234,12 +304,14 @@ pub fn learn(
     trail: &Trail,
     place: u32,
     level: u32,
+    loose: bool,
 ) -> Result<u32, NoMemory>
     requires goes { Goes book.now trail.now }
     requires codes { seen.now.codes ≡ 2 * trail.now.atoms }
-    requires cut { IsCut book.now.clauses trail.now.steps seen.now.marked level place }
+    requires grounded { IsGrounded (base_of book.now loose) book.now.clauses trail.now.steps }
+    requires cut { IsCut (base_of book.now loose) trail.now.steps seen.now.marked level place }
     ensures { IfOk result (λ target.
-        IsLearned trail.now.atoms book.now.clauses trail.now.steps learned.new.items place target) }
+        IsLearned trail.now.atoms (base_of book.now loose) trail.now.steps learned.new.items place target) }
 {
     levels.restart();
     levels.insert(level);
@@ -247,7 +319,9 @@ pub fn learn(
     learned.push(opposite(trail.at(place)))?;
     let mut target = 0;
     for literal in seen.as_slice() {
-        target = take_marked(learned, levels, seen, book, trail, *literal, level, target)?;
+        target = take_marked(
+            learned, levels, seen, book, trail, *literal, level, target, loose,
+        )?;
     }
     Ok(target)
 }

@@ -8,9 +8,9 @@ ghost use Rattle.asp_search.specs.Cores.{IsTrace};
 
 use crate::NoMemory;
 use crate::analyze::{mark_cause, mark_reason};
-use crate::decide::DecisionHeap;
 use crate::seen::Seen;
 use asp_clauses::{Book, Trail};
+use asp_decide::DecisionHeap;
 use std::alloc::Global;
 
 /// The assumptions that can't all be true where the clauses hold: the false one, and the decisions that its negation

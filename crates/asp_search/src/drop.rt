@@ -1,17 +1,31 @@
-//! At growing intervals the worse half of the learned clauses is dropped.
+//! Clauses are dropped: loose ones where a search begins again, and the worse half of the learned ones at growing intervals.
 
-ghost use Rattle.std.specs.Prelude.{◌≡◌, ◌+◌, ◌*◌, ◌/◌, ◌<◌, ◌≤◌, ◌^◌, length, IfOk};
+ghost use Rattle.std.specs.Prelude.{◌≡◌, ◌+◌, ◌*◌, ◌/◌, ◌<◌, ◌≤◌, ◌^◌, [], length, map, IfOk};
 ghost use Rattle.asp_clauses.specs.Trail.{TrailState};
+ghost use Rattle.asp_clauses.specs.Book.{Goes};
+ghost use Rattle.asp_clauses.specs.Kept.{kept, is_firm};
+ghost use Rattle.asp_search.specs.Learned.{firm_of};
 ghost use Rattle.asp_search.specs.Solver.{IsReady, Stays};
 
 use crate::NoMemory;
 use crate::activity::ClauseActivity;
 use crate::solver::Solver;
-use asp_clauses::{Book, Kind};
+use asp_clauses::{Book, Kind, Trail};
 use std::alloc::Global;
 
 /// A learned clause of so many decision levels or fewer is never dropped.
 const GOOD_LEVELS: u16 = 2;
+
+/// Drops the loose clauses, of which none is a reason since no literal is placed.
+pub fn drop_loose(book: &mut Book, trail: &Trail)
+    requires goes { Goes book.old trail.now }
+    requires empty { trail.now.steps ≡ [] }
+    ensures clauses { book.new.clauses ≡ firm_of book.old }
+    ensures kinds { book.new.kinds ≡ kept (map is_firm book.old.kinds) book.old.kinds }
+    ensures goes { Goes book.new trail.now }
+{
+    book.settle(trail);
+}
 
 /// Drops learned clauses if it is time to, but for reasons of placed literals. Out of memory none is dropped.
 pub fn drop_learned(solver: &mut Solver, alloc: Global)

@@ -6,16 +6,18 @@ ghost use Rattle.asp_clauses.specs.Trail.{IsFalse, StandsAt, clause_at, level_at
 ghost use Rattle.asp_clauses.specs.Visits.{IsConflict};
 ghost use Rattle.asp_search.specs.Analysis.{IsLearned, IsTopLevel};
 ghost use Rattle.asp_search.specs.Solver.{IsReady, IsRewound, Stays, AreRefuted};
+ghost use Rattle.asp_search.specs.Learned.{base_of, IsGrounded};
 ghost use Rattle.asp_search.specs.Deriving.{Derives, Keeps};
 
 use crate::NoMemory;
 use crate::analyze::{conflict_level, learn, resolve_conflict};
-use crate::decide::DecisionHeap;
 use crate::drop::drop_learned;
 use crate::fault::SearchFault;
+use crate::ground::look_at_ground;
 use crate::minimize::mark_implied;
 use crate::solver::{Solver, opposite};
 use asp_clauses::Trail;
+use asp_decide::DecisionHeap;
 use std::alloc::Global;
 
 /// Learns from a conflict and goes back; false where no assignment satisfies the clauses.
@@ -35,6 +37,32 @@ pub fn handle_conflict(
     if level == 0 {
         return Ok(false);
     }
+    look_at_ground(
+        &solver.book,
+        &solver.trail,
+        &mut solver.looked,
+        &mut solver.ground_loose,
+    );
+    learn_from(solver, alloc, conflict, level)?;
+    Ok(true)
+}
+
+/// Learns a clause from a conflict, and goes back to where it implies a literal.
+fn learn_from(
+    solver: &mut Solver,
+    alloc: Global,
+    conflict: u32,
+    level: u32,
+) -> Result<(), SearchFault>
+    requires ready { IsReady solver.old }
+    requires conflict { IsConflict solver.old.book solver.old.trail.steps conflict }
+    requires top { IsTopLevel solver.old.trail.steps (clause_at solver.old.book.clauses conflict) level }
+    requires decided { 0 < level }
+    requires grounded { IsGrounded (base_of solver.old.book solver.old.ground_loose) solver.old.book.clauses solver.old.trail.steps }
+    ensures stays { Stays solver.old solver.new }
+    ensures placed { OnOk result (solver.new.trail.count ≡ solver.old.trail.count + 1) }
+    ensures spent { result ≡ Err SearchFault.Spent → solver.new.trail.count ≡ solver.new.trail.budget }
+{
     let derived = derive(solver, conflict, level);
     solver.seen.clear();
     match derived {
@@ -42,7 +70,7 @@ pub fn handle_conflict(
             let level = jump_level(solver, place, target);
             go_back(solver, alloc, place, level)?;
             drop_learned(solver, alloc);
-            Ok(true)
+            Ok(())
         }
         Err(_) => Err(SearchFault::NoMemory),
     }
@@ -55,19 +83,23 @@ fn derive(solver: &mut Solver, conflict: u32, level: u32) -> Result<(u32, u32), 
     requires conflict { IsConflict solver.old.book solver.old.trail.steps conflict }
     requires top { IsTopLevel solver.old.trail.steps (clause_at solver.old.book.clauses conflict) level }
     requires decided { 0 < level }
+    requires grounded { IsGrounded (base_of solver.old.book solver.old.ground_loose) solver.old.book.clauses solver.old.trail.steps }
     ensures keeps { Keeps solver.old solver.new }
     ensures derives { IfOk result (λ r. Derives solver.new r.0 r.1) }
 {
+    solver.loose = solver.ground_loose;
     let place = resolve_conflict(
         &mut solver.seen,
         &mut solver.heap,
         &mut solver.activity,
+        &mut solver.loose,
         &solver.book,
         &solver.trail,
         conflict,
         level,
     )?;
-    mark_implied(&mut solver.seen, &solver.book, &solver.trail, level)?;
+    let loose = solver.loose;
+    mark_implied(&mut solver.seen, &solver.book, &solver.trail, level, loose)?;
     let target = learn(
         &mut solver.learned,
         &mut solver.levels,
@@ -76,6 +108,7 @@ fn derive(solver: &mut Solver, conflict: u32, level: u32) -> Result<(u32, u32), 
         &solver.trail,
         place,
         level,
+        loose,
     )?;
     Ok((place, target))
 }
@@ -109,7 +142,7 @@ fn go_back(solver: &mut Solver, alloc: Global, place: u32, target: u32) -> Resul
     let score = solver.levels.len();
     let added = solver
         .book
-        .add_learned(alloc, solver.learned.as_slice(), false, score);
+        .add_learned(alloc, solver.learned.as_slice(), solver.loose, score);
     let number = match added {
         Ok(number) => number,
         Err(_) => return Err(SearchFault::NoMemory),

@@ -15,9 +15,9 @@
 //! | module | state or step |
 //! |---|---|
 //! | `seen` | the literals that an analysis has marked |
-//! | `decide` | activities, the heap of atoms, phases: which literal is decided next |
 //! | `solver` | what a search works on: book, trail, decision heap, seen literals, assumptions |
 //! | `analyze` | a conflict, resolved down to one literal of its level, and the clause that is learned |
+//! | `ground` | whether loose clauses are reasons before the first decision |
 //! | `minimize` | what follows from the marked literals, so that the learned clause needn't name it |
 //! | `activity` | how active clauses were, and how many decision levels they have |
 //! | `drop` | learned clauses are dropped at growing intervals |
@@ -33,9 +33,9 @@ mod activity;
 mod analyze;
 mod clause;
 mod cores;
-mod decide;
 mod drop;
 mod fault;
+mod ground;
 mod jump;
 mod laws;
 mod minimize;

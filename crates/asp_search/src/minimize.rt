@@ -8,10 +8,12 @@ ghost use Rattle.asp_clauses.specs.Literal.{negated};
 ghost use Rattle.asp_clauses.specs.Trail.{IsPlaced, StandsAt, literal_at, level_at};
 ghost use Rattle.asp_clauses.specs.Book.{Goes};
 ghost use Rattle.asp_search.specs.Meaning.{Mentions};
+ghost use Rattle.asp_search.specs.Learned.{base_of};
 ghost use Rattle.asp_search.specs.Analysis.{AreMarked, IsMarkedAt};
 ghost use Rattle.asp_search.specs.Minimize.{IsBelow, MarksBelow, MarksOne};
 
 use crate::NoMemory;
+use crate::analyze::is_barred;
 use crate::seen::Seen;
 use crate::solver::opposite;
 use asp_clauses::{Book, Trail};
@@ -23,18 +25,26 @@ struct Levels {
     top: u32,
     // A bit for each; levels that differ by 64 share one.
     bits: u64,
+    // Whether the clause is loose, so that it may rest on loose clauses.
+    loose: bool,
 }
 
 /// Marks what follows from the marked literals, as far as it is found to.
-pub fn mark_implied(seen: &mut Seen, book: &Book, trail: &Trail, level: u32) -> Result<(), NoMemory>
+pub fn mark_implied(
+    seen: &mut Seen,
+    book: &Book,
+    trail: &Trail,
+    level: u32,
+    loose: bool,
+) -> Result<(), NoMemory>
     requires goes { Goes book.now trail.now }
     requires codes { seen.old.codes ≡ 2 * trail.now.atoms }
     requires marked { AreMarked trail.now.steps level seen.old.marked }
-    requires mentions { (literal : ℕ) → Contains seen.old.marked literal → Mentions book.now.clauses (literal / 2) }
+    requires mentions { (literal : ℕ) → Contains seen.old.marked literal → Mentions (base_of book.now loose) (literal / 2) }
     ensures codes { seen.new.codes ≡ seen.old.codes }
-    ensures marks { OnOk result (MarksBelow book.now.clauses trail.now.steps level seen.old.marked seen.new.marked) }
+    ensures marks { OnOk result (MarksBelow (base_of book.now loose) trail.now.steps level seen.old.marked seen.new.marked) }
 {
-    let levels = levels_of(seen, trail, level);
+    let levels = levels_of(seen, trail, level, loose);
     for place in 0..seen.len() {
         let literal = seen.at(place);
         mark_cone(seen, book, trail, literal, &levels)?;
@@ -43,15 +53,20 @@ pub fn mark_implied(seen: &mut Seen, book: &Book, trail: &Trail, level: u32) -> 
 }
 
 /// The levels of the marked literals.
-fn levels_of(seen: &Seen, trail: &Trail, level: u32) -> Levels
+fn levels_of(seen: &Seen, trail: &Trail, level: u32, loose: bool) -> Levels
     requires marked { AreMarked trail.now.steps level seen.now.marked }
-    ensures { result.top ≡ level }
+    ensures top { result.top ≡ level }
+    ensures loose { result.loose ≡ loose }
 {
     let mut bits = 0u64;
     for literal in seen.as_slice() {
         bits |= 1u64 << (trail.level(*literal / 2) % 64);
     }
-    Levels { top: level, bits }
+    Levels {
+        top: level,
+        bits,
+        loose,
+    }
 }
 
 /// Marks all that a marked literal of a lower level rests on, where it follows from literals that are marked already;
@@ -66,9 +81,9 @@ fn mark_cone(
     requires goes { Goes book.now trail.now }
     requires codes { seen.old.codes ≡ 2 * trail.now.atoms }
     requires marked { IsMarkedAt trail.now.steps levels.now.top literal }
-    requires mentioned { Mentions book.now.clauses (literal / 2) }
+    requires mentioned { Mentions (base_of book.now levels.now.loose) (literal / 2) }
     ensures codes { seen.new.codes ≡ seen.old.codes }
-    ensures marks { OnOk result (MarksBelow book.now.clauses trail.now.steps levels.now.top seen.old.marked seen.new.marked) }
+    ensures marks { OnOk result (MarksBelow (base_of book.now levels.now.loose) trail.now.steps levels.now.top seen.old.marked seen.new.marked) }
 {
     if trail.level(literal / 2) >= levels.top {
         return Ok(());
@@ -92,10 +107,10 @@ fn mark_causes(
 ) -> Result<bool, NoMemory>
     requires goes { Goes book.now trail.now }
     requires codes { seen.old.codes ≡ 2 * trail.now.atoms }
-    requires below { IsBelow book.now.clauses trail.now.steps levels.now.top literal }
+    requires below { IsBelow (base_of book.now levels.now.loose) trail.now.steps levels.now.top literal }
     ensures codes { seen.new.codes ≡ seen.old.codes }
     ensures marks { IfOk result (λ _.
-        MarksBelow book.now.clauses trail.now.steps levels.now.top seen.old.marked seen.new.marked) }
+        MarksBelow (base_of book.now levels.now.loose) trail.now.steps levels.now.top seen.old.marked seen.new.marked) }
 {
     let count = seen.len();
     if !mark_antecedents(seen, book, trail, literal, levels)? {
@@ -114,7 +129,8 @@ fn mark_causes(
     Ok(false)
 }
 
-/// Marks what makes the other literals of the literal's reason false; false where that can't follow from marked literals.
+/// Marks what makes the other literals of the literal's reason false; false where that can't follow from marked literals,
+/// or where the reason is loose and the clause isn't to be.
 fn mark_antecedents(
     seen: &mut Seen,
     book: &Book,
@@ -124,15 +140,18 @@ fn mark_antecedents(
 ) -> Result<bool, NoMemory>
     requires goes { Goes book.now trail.now }
     requires codes { seen.old.codes ≡ 2 * trail.now.atoms }
-    requires below { IsBelow book.now.clauses trail.now.steps levels.now.top literal }
+    requires below { IsBelow (base_of book.now levels.now.loose) trail.now.steps levels.now.top literal }
     ensures codes { seen.new.codes ≡ seen.old.codes }
     ensures marks { IfOk result (λ _.
-        MarksBelow book.now.clauses trail.now.steps levels.now.top seen.old.marked seen.new.marked) }
+        MarksBelow (base_of book.now levels.now.loose) trail.now.steps levels.now.top seen.old.marked seen.new.marked) }
 {
     let reason = match trail.reason(literal / 2) {
         Some(reason) => reason,
         None => return Ok(false),
     };
+    if is_barred(book, reason, levels.loose) {
+        return Ok(false);
+    }
     for other in book.lits(reason) {
         if !mark_antecedent(seen, trail, literal, *other, levels)? {
             return Ok(false);

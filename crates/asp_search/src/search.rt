@@ -6,12 +6,12 @@ ghost use Rattle.asp_search.specs.Meaning.{SameMeaning};
 ghost use Rattle.asp_search.specs.Seen.{AreCodes};
 ghost use Rattle.asp_search.specs.Cores.{IsCore};
 ghost use Rattle.asp_search.specs.Found.{assignment_of};
-ghost use Rattle.asp_search.specs.State.{IsFresh, Adds, AreDifferent, GoesOn, IsFound, HasFound};
+ghost use Rattle.asp_search.specs.State.{IsFresh, Adds, AddsLoose, AreDifferent, GoesOn, IsFound, HasFound};
 
 use crate::NoMemory;
 use crate::activity::{ClauseActivity, LevelCount};
 use crate::clause::add_clause;
-use crate::decide::DecisionHeap;
+use crate::drop::drop_loose;
 use crate::fault::SearchFault;
 use crate::jump::unwind;
 use crate::outcome::Outcome;
@@ -20,6 +20,7 @@ use crate::solver::{Solver, is_true};
 use crate::stage::Stage;
 use crate::steps::run;
 use asp_clauses::{Book, Trail};
+use asp_decide::DecisionHeap;
 use std::alloc::Global;
 use std::marker::Model;
 
@@ -72,6 +73,9 @@ impl Search {
             trail,
             heap,
             seen,
+            loose: false,
+            looked: 0,
+            ground_loose: false,
             activity: ClauseActivity::new(alloc),
             levels,
             learned: Vec::new(alloc),
@@ -88,7 +92,7 @@ impl Search {
         })
     }
 
-    /// Adds a clause: at least one of its literals has to be true. A literal may stand in it twice, and so may both
+    /// Adds a firm clause: at least one of its literals has to be true. A literal may stand in it twice, and so may both
     /// literals of an atom; the empty clause is never satisfied. `NoMemory`: memory was refused, or the clauses' numbers are
     /// used up; the search is as it was.
     pub fn add(&mut self, alloc: Global, clause: &[u32]) -> Result<(), NoMemory>
@@ -96,20 +100,35 @@ impl Search {
         ensures added { OnOk result (Adds self.old self.new clause.now) }
         ensures unchanged { OnErr result (self.new ≡ self.old) }
     {
-        add_clause(&mut self.solver, alloc, clause)?;
+        add_clause(&mut self.solver, alloc, clause, false)?;
         if self.stage == Stage::Found {
             self.stage = Stage::Extended;
         }
         Ok(())
     }
 
-    /// Begins a search under assumptions. What was learned before stays, and so do activities and phases. `NoMemory`: memory was refused; the search is as
+    /// Adds a loose clause: as `add`, but it holds only until the next `begin`, and so does what is learned from it.
+    /// `NoMemory`: memory was refused, or the clauses' numbers are used up; the search is as it was.
+    pub fn add_loose(&mut self, alloc: Global, clause: &[u32]) -> Result<(), NoMemory>
+        requires { AreCodes (2 * self.old.atoms) clause.now }
+        ensures added { OnOk result (AddsLoose self.old self.new clause.now) }
+        ensures unchanged { OnErr result (self.new ≡ self.old) }
+    {
+        add_clause(&mut self.solver, alloc, clause, true)?;
+        if self.stage == Stage::Found {
+            self.stage = Stage::Extended;
+        }
+        Ok(())
+    }
+
+    /// Begins a search under assumptions. The loose clauses are dropped. What was learned from firm clauses stays, and so do
+    /// activities and phases. `NoMemory`: memory was refused; the search is as
     /// it was.
     pub fn begin(&mut self, alloc: Global, assume: &[u32]) -> Result<(), NoMemory>
         requires codes { AreCodes (2 * self.old.atoms) assume.now }
         requires different { AreDifferent assume.now }
         ensures begun { OnOk result
-            (self.new ≡ record self.old { count = 0; assumed = assume.now; trail = []; ordered = None; stage = Stage.Begun }) }
+            (self.new ≡ record self.old { count = 0; clauses = self.old.firm; assumed = assume.now; trail = []; ordered = None; stage = Stage.Begun }) }
         ensures unchanged { OnErr result (self.new ≡ self.old) }
     {
         let assumed = Vec::from_slice(alloc, assume)?;
@@ -117,6 +136,9 @@ impl Search {
         self.stage = Stage::Begun;
         unwind(&mut self.solver.heap, &self.solver.trail, 0);
         self.solver.trail.reset();
+        drop_loose(&mut self.solver.book, &self.solver.trail);
+        self.solver.looked = 0;
+        self.solver.ground_loose = false;
         self.solver.assumed = assumed;
         self.solver.cursor = 0;
         self.solver.held = 0;
@@ -178,7 +200,7 @@ impl Search {
         self.budget
     }
 
-    /// How many clauses are kept: the added ones, but for those with both literals of an atom, and the learned ones.
+    /// How many clauses are kept: those that hold, but for those with both literals of an atom, and the learned ones.
     pub fn clauses(&self) -> u32
         ensures { result ≡ length self.now.clauses }
     {
@@ -193,14 +215,16 @@ impl Search {
     }
 
     /// How many conflicts taught a clause since the search was made.
-    pub fn conflicts(&self) -> u64 {
+    pub fn conflicts(&self) -> u64
+        ensures { result ≡ self.now.conflicts }
+    {
         self.solver.activity.total()
     }
 
-    /// Has half of the learned clauses dropped after so many conflicts, and then at intervals that grow by an eighth each: a
+    /// Has half of the learned clauses dropped after so many conflicts, and then at intervals that grow by a part of themselves: a
     /// short interval, as for tests, forgets more. It changes how long a search takes and no answer's meaning.
     pub fn set_interval(&mut self, conflicts: u64)
-        ensures { self.new ≡ self.old }
+        ensures { self.new ≡ record self.old { interval = conflicts } }
     {
         self.solver.activity.set_interval(conflicts);
     }

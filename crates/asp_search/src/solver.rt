@@ -5,9 +5,9 @@ ghost use Rattle.asp_clauses.specs.Literal.{negated};
 ghost use Rattle.asp_clauses.specs.Trail.{IsPlaced};
 
 use crate::activity::{ClauseActivity, LevelCount};
-use crate::decide::DecisionHeap;
 use crate::seen::Seen;
 use asp_clauses::{Book, Trail};
+use asp_decide::DecisionHeap;
 
 /// The state of a search between two steps.
 #[derive(Drop)]
@@ -17,6 +17,12 @@ pub struct Solver {
     pub heap: DecisionHeap,
     // The literals that an analysis marked; empty between two steps.
     pub seen: Seen,
+    // Whether the clause that is being learned rests on a loose one.
+    pub loose: bool,
+    // So many literals before the first decision were looked at for loose reasons,
+    pub looked: u32,
+    // and whether one was found.
+    pub ground_loose: bool,
     // How active each clause was, and when learned ones are dropped next.
     pub activity: ClauseActivity,
     // The decision levels of the clause that is being learned.

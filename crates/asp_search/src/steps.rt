@@ -11,12 +11,12 @@ ghost use Rattle.asp_search.specs.Cores.{IsCore};
 ghost use Rattle.asp_search.specs.Found.{IsNext, AreAllTrue, IsSatisfied, MovesCursor};
 
 use crate::cores::core_of;
-use crate::decide::choose;
 use crate::fault::SearchFault;
 use crate::jump::handle_conflict;
 use crate::outcome::Outcome;
 use crate::solver::{Solver, is_true, opposite};
 use asp_clauses::propagate;
+use asp_decide::choose;
 use asp_defs::List;
 use std::alloc::Global;
 

@@ -86,3 +86,6 @@ returns-in-Some-clause-unfounded c = λ u e.
 pub returns-in-Ok-Found-clause-alone : goal.returns-in-Ok-Found-clause-alone
 returns-in-Ok-Found-clause-alone c = λ u a e h.
     absurd (none_alone c.args.rules.now c.args.free.now c.args.set.now c.in_ok-part.part a c.in_ok-part.ensures (rw c.in_default.is at c.in_ok-atom.ensures) h)
+
+pub prepare-requires-clause-firm : goal.prepare-requires-clause-firm
+prepare-requires-clause-firm c = c.requires.fresh.firm ∙ sym c.requires.fresh.clauses

@@ -1,4 +1,4 @@
-use Rattle.std.proofs.Common.{refl, ap}
+use Rattle.std.proofs.Common.{refl, ap, ◌∙◌}
 use Rattle.std.specs.List.{list_any, list_all}
 use Rattle.asp_bits.specs.Places.{true_places}
 use Rattle.asp_search.specs.State.{SearchState}
@@ -23,7 +23,7 @@ returns-clause-demands c =
     on_ok c.add_rules.result
     (λ demands.
     demands_since c.args.search.now c.begin.new.self c.add_rules.new.search test
-    (ap (λ (s : SearchState). s.clauses) c.in_ok-begin.ensures.begun) (ap (λ (s : SearchState). s.atoms) c.in_ok-begin.ensures.begun)
+    (ap (λ (s : SearchState). s.clauses) c.in_ok-begin.ensures.begun ∙ c.requires.firm) (ap (λ (s : SearchState). s.atoms) c.in_ok-begin.ensures.begun)
     (ap (λ (s : SearchState). s.budget) c.in_ok-begin.ensures.begun) (has_begun (goal.at.returns-clause-demands c).In_ok-begin)
     (demands_both c.begin.new.self c.add_leaving.new.search c.add_rules.new.search
     (λ v. list_any (leaves v) c.args.numbers.now)

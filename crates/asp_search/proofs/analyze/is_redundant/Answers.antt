@@ -42,8 +42,14 @@ returns c = λ _ place within is.
     record {
       number = c.in-Some.reason;
       reason = sym (c.in-Some.ensures place (within, ap (λ (l : ℕ). l / 2) is));
+      based = c.is_barred.ensures c.if-is_barred.false;
       others = λ other has ne.
           c.loop-other.invariant other
           (subst (λ (l : List ℕ). Contains l other) (sym whole) (subst (λ (l : List ℕ). Contains l other) (sym c.lits-other-items.ensures.value) has))
           (λ (e : other ≡ c.args.literal). ne (e ∙ sym is));
     }
+
+pub is_barred-requires : goal.is_barred-requires
+is_barred-requires c =
+    let p = c.requires.placed in
+    (c.requires.goes.lawful.reasoned p.0 p.1 c.in-Some.reason (sym (c.in-Some.ensures p.0 (p.1, ap (λ (l : ℕ). l / 2) p.2)))).0

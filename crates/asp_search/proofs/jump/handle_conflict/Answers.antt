@@ -1,41 +1,30 @@
-use Rattle.asp_search.proofs.Clauses.{SameMeaning-refl}
-use Rattle.std.proofs.Common.{ap, ◌∙◌, refl, arith}
-use Rattle.asp_clauses.specs.Trail.{TrailState}
-use Rattle.asp_search.proofs.Stepping.{refuted_at_zero, IsReady-kept, Stays-kept, Stays-then}
+use Rattle.asp_search.proofs.Stepping.{refuted_at_zero}
 use Rattle.asp_search.proofs.jump.handle_conflict.Goals as goal
 
 pub returns-then-level-eq0-clause-refuted : goal.returns-then-level-eq0-clause-refuted
 returns-then-level-eq0-clause-refuted c = λ _.
     refuted_at_zero c.args.solver.now.trail.atoms c.args.solver.now.book.clauses c.args.solver.now.trail.steps c.requires.ready.fitted.goes.lawful c.args.conflict c.conflict_level-level.result c.requires.conflict.0 c.requires.conflict.1 c.conflict_level-level.ensures c.if-level-eq0.true
 
-pub jump_level-level-requires-clause-ready : goal.jump_level-level-requires-clause-ready
-jump_level-level-requires-clause-ready c =
-    let k = c.derive-derived.ensures.keeps in
-    IsReady-kept c.args.solver.now _ c.requires.ready k.book k.trail k.assumed k.cursor k.held (c.clear.ensures.codes ∙ k.codes) c.clear.ensures.none k.heap
-
-pub go_back-requires-clause-ready : goal.go_back-requires-clause-ready
-go_back-requires-clause-ready c =
-    let k = c.derive-derived.ensures.keeps in
-    IsReady-kept c.args.solver.now _ c.requires.ready k.book k.trail k.assumed k.cursor k.held (c.clear.ensures.codes ∙ k.codes) c.clear.ensures.none k.heap
-
-pub returns-in-Err-clause-stays : goal.returns-in-Err-clause-stays
-returns-in-Err-clause-stays c =
-    let k = c.derive-derived.ensures.keeps in
+pub learn_from-requires-clause-ready : goal.learn_from-requires-clause-ready
+learn_from-requires-clause-ready c =
+    let ready = c.requires.ready in
     record {
-      ready = IsReady-kept c.args.solver.now _ c.requires.ready k.book k.trail k.assumed k.cursor k.held (c.clear.ensures.codes ∙ k.codes) c.clear.ensures.none k.heap;
-      meaning = rw k.book (SameMeaning-refl c.args.solver.now.book.clauses);
-      atoms = ap (λ (t : TrailState). t.atoms) k.trail;
-      budget = ap (λ (t : TrailState). t.budget) k.trail;
-      assumptions = rw k.assumed refl;
-      count = let still = ap (λ (t : TrailState). t.count) k.trail in omega (arith, still);
-      decided = omega (arith, k.decided);
+      fitted = ready.fitted;
+      ranges = ready.ranges;
+      learned = ready.learned;
+      ground = c.look_at_ground.ensures.ground;
+      unmarked = ready.unmarked;
+      assumptions = ready.assumptions;
+      assumed = ready.assumed;
+      cursor = ready.cursor;
     }
 
-pub returns-in_ok-go_back-in-Ok-clause-stays : goal.returns-in_ok-go_back-in-Ok-clause-stays
-returns-in_ok-go_back-in-Ok-clause-stays c =
-    let k = c.derive-derived.ensures.keeps in
-    Stays-then c.args.solver.now c.go_back.new.solver c.drop_learned.new.solver
-    (Stays-then c.args.solver.now _ c.go_back.new.solver
-    (Stays-kept c.args.solver.now _ c.requires.ready k.book k.trail k.assumed k.cursor k.held (c.clear.ensures.codes ∙ k.codes) c.clear.ensures.none k.heap k.decided)
-    c.in_ok-go_back-in-Ok.ensures.stays)
-    c.drop_learned.ensures.stays
+pub returns-clause-stays : goal.returns-clause-stays
+returns-clause-stays c =
+    let s = c.in_ok-learn_from.ensures.stays in
+    record { ready = s.ready; meaning = s.meaning; firm = s.firm; atoms = s.atoms; budget = s.budget; assumptions = s.assumptions; count = s.count; decided = s.decided; activity = s.activity }
+
+pub returns-in_err-learn_from-clause-stays : goal.returns-in_err-learn_from-clause-stays
+returns-in_err-learn_from-clause-stays c =
+    let s = c.learn_from.ensures.stays in
+    record { ready = s.ready; meaning = s.meaning; firm = s.firm; atoms = s.atoms; budget = s.budget; assumptions = s.assumptions; count = s.count; decided = s.decided; activity = s.activity }

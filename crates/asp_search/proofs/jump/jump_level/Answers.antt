@@ -1,5 +1,6 @@
 use Rattle.std.proofs.Common.{◌≡◌, ◌-◌, ◌/◌, ◌<◌, ◌≤◌, ℕ, ap, sym, arith}
 use Rattle.asp_clauses.specs.Trail.{level_at}
+use Rattle.asp_search.specs.Learned.{base_of}
 use Rattle.asp_search.specs.Deriving.{Derives}
 use Rattle.asp_search.proofs.Learning.{IsLearned-higher}
 use Rattle.asp_search.proofs.jump.jump_level.Goals as goal
@@ -18,7 +19,7 @@ higher c level up below =
     let s = c.args.solver.now in
     record {
       within = c.requires.derives.within;
-      learned = IsLearned-higher s.trail.atoms s.book.clauses s.trail.steps c.requires.ready.fitted.goes.lawful s.learned.items c.args.place c.args.target level c.requires.derives.within up (omega (arith, below, level_is c)) c.requires.derives.learned;
+      learned = IsLearned-higher s.trail.atoms (base_of s.book s.loose) s.book.clauses s.trail.steps c.requires.ready.fitted.goes.lawful s.learned.items c.args.place c.args.target level c.requires.derives.within up (omega (arith, below, level_is c)) c.requires.derives.learned;
     }
 
 pub returns-then-solver-level : goal.returns-then-solver-level

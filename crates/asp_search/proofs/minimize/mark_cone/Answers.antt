@@ -1,4 +1,5 @@
 use Rattle.std.proofs.Common.{◌/◌, ℕ, ap, ◌∙◌, arith}
+use Rattle.asp_search.specs.Learned.{base_of}
 use Rattle.asp_search.proofs.Minimizing.{MarksBelow-none, MarksBelow-cut}
 use Rattle.asp_search.proofs.minimize.mark_cone.Goals as goal
 
@@ -21,8 +22,8 @@ mark_causes-requires-clause-below c =
 
 pub returns-clause-marks : goal.returns-clause-marks
 returns-clause-marks c =
-    let clauses = c.args.book.now.clauses in
+    let base = base_of c.args.book.now c.args.levels.now.loose in
     let steps = c.args.trail.now.steps in
     let old = c.args.seen.now.marked in
-    MarksBelow-none clauses steps c.args.levels.now.top old c.truncate.new.self.marked
-    (c.truncate.ensures.marked ∙ MarksBelow-cut clauses steps c.args.levels.now.top old c.mark_causes.new.seen.marked c.len-count.result c.len-count.ensures c.in_ok-mark_causes.ensures.marks)
+    MarksBelow-none base steps c.args.levels.now.top old c.truncate.new.self.marked
+    (c.truncate.ensures.marked ∙ MarksBelow-cut base steps c.args.levels.now.top old c.mark_causes.new.seen.marked c.len-count.result c.len-count.ensures c.in_ok-mark_causes.ensures.marks)

@@ -1,7 +1,8 @@
 use Rattle.std.proofs.Common.{◌≡◌}
+use Rattle.asp_search.specs.Learned.{base_of}
 use Rattle.asp_search.specs.Minimize.{MarksBelow}
 use Rattle.asp_search.proofs.minimize.mark_implied.Given as goal
 
 abbrev pub invariant-loop-place : goal.invariant-loop-place
 invariant-loop-place l =
-    (l.seen.codes ≡ l.initial.seen.codes) × MarksBelow l.book.clauses l.trail.steps l.level l.initial.seen.marked l.seen.marked
+    (l.seen.codes ≡ l.initial.seen.codes) × MarksBelow (base_of l.book l.loose) l.trail.steps l.level l.initial.seen.marked l.seen.marked

@@ -25,12 +25,12 @@ pub returns-in-Ok-clause-stays : goal.returns-in-Ok-clause-stays
 returns-in-Ok-clause-stays c =
     let old = c.args.solver.now in
     let has : Contains old.assumed.items c.args.literal = subst (λ (l : ℕ). Contains old.assumed.items l) c.requires.next.is (Contains-at old.assumed.items old.cursor c.requires.next.within) in
-    Stays-decided old _ (record { literal = c.args.literal; reason = None }) c.requires.ready c.in-Ok.ensures.placed (c.in-Ok.ensures.goes old.book c.requires.ready.fitted.goes) refl refl refl refl
+    Stays-decided old _ (record { literal = c.args.literal; reason = None }) c.requires.ready c.in-Ok.ensures.placed (c.in-Ok.ensures.goes old.book c.requires.ready.fitted.goes) refl refl refl refl refl refl
     (DecidesAssumed-decided old.assumed.items old.trail.steps (record { literal = c.args.literal; reason = None }) (inl has) c.requires.ready.assumed)
     (subst (λ (held : ℕ). IsCursor old.assumed.items (old.trail.steps ++ record { literal = c.args.literal; reason = None } ∷ []) (old.cursor + 1) held) (sym (c.decisions-solver.ensures ∙ ap (λ (steps : List Step). decisions steps) c.in-Ok.ensures.placed.steps))
     (IsCursor-decided old.assumed.items old.trail.steps (record { literal = c.args.literal; reason = None }) old.cursor old.held c.requires.next.within c.requires.next.is c.requires.ready.cursor))
-    (omega (arith, c.saturating_add-solver.ensures))
+    (omega (arith, c.saturating_add-solver.ensures)) refl
 
 pub returns-in-Err-clause-stays : goal.returns-in-Err-clause-stays
 returns-in-Err-clause-stays c =
-    Stays-kept c.args.solver.now _ c.requires.ready refl c.in-Err.ensures.unchanged refl refl refl refl c.requires.ready.unmarked refl refl
+    Stays-kept c.args.solver.now _ c.requires.ready refl c.in-Err.ensures.unchanged refl refl refl refl refl refl c.requires.ready.unmarked refl refl refl

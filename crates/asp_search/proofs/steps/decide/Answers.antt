@@ -1,7 +1,7 @@
 use Rattle.std.proofs.Common.{◌+◌, ◌*◌, ⊎_elim, inl, inr, refl}
 use Rattle.asp_clauses.specs.Trail.{IsPlaced}
 use Rattle.asp_clauses.specs.Choices.{IsFixpoint}
-use Rattle.asp_search.specs.Found.{IsTotal}
+use Rattle.asp_decide.specs.Total.{IsTotal}
 use Rattle.asp_search.proofs.Deciding.{clauses_satisfied, truth_placed, Contains-literals}
 use Rattle.asp_search.proofs.steps.decide.Goals as goal
 

@@ -16,6 +16,7 @@ loop-solver-preserved c =
         fitted = i.ready.fitted;
         ranges = i.ready.ranges;
         learned = i.ready.learned;
+        ground = i.ready.ground;
         unmarked = i.ready.unmarked;
         assumptions = i.ready.assumptions;
         assumed = i.ready.assumed;
@@ -25,6 +26,7 @@ loop-solver-preserved c =
       trail = i.trail;
       assumed = i.assumed;
       decided = i.decided;
+      activity = i.activity;
     }
 
 pub returns-clause-all : goal.returns-clause-all

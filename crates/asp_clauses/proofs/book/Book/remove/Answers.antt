@@ -6,7 +6,7 @@ use Rattle.asp_clauses.specs.Trail.{TrailState}
 use Rattle.asp_clauses.specs.Book.{BookState, Goes}
 use Rattle.asp_clauses.specs.Watches.{book_of}
 use Rattle.asp_clauses.specs.Kept.{kept, IsReason}
-use Rattle.asp_clauses.proofs.BookLemmas.{Compacts, Removes-from, kinds_still, clauses_kept, kinds_kept, relabelled_is, reason_within, marked_reasons, marks_many}
+use Rattle.asp_clauses.proofs.BookLemmas.{Compacts, Removes-from, kinds_still, clauses_kept, kinds_kept, relabelled_is, reason_within, new_number_small, marked_reasons, marks_many}
 use Rattle.asp_clauses.proofs.RenamedLemmas.{Goes-removed}
 use Rattle.asp_clauses.proofs.book.Book.remove.Goals as goal
 
@@ -56,3 +56,12 @@ returns-clause-goes c =
     let after = c.renumber.ensures ∙ ap (λ (s : List Step). let t : TrailState = record trail { steps = s } in t) (relabelled_is old numbered marks trail.steps c.number_clauses.ensures within reasons) in
     let s = c.self.invariant.0.store in
     subst (Goes is) (sym after) (Goes-removed was is marks trail (Removes-from old numbered new kinds rest marks trail.steps c.number_clauses.ensures many done reasons) (omega (arith, s.watched, length-map old.records literals_of)) goes)
+
+pub renumber-requires-clause-numbers : goal.renumber-requires-clause-numbers
+renumber-requires-clause-numbers c = λ clause r.
+    let old = c.self.inside.watches in let numbered = c.number_clauses.new.watches in let kinds = c.self.inside.kinds.items in
+    let marks = c.mark_reasons.new.stays in let trail = c.args.trail.now in
+    let was : BookState = record (book_of old) { kinds = kinds } in
+    let goes = subst (λ (b : BookState). Goes b trail) (sym c.self.view_is) c.requires.goes in
+    let w = reason_within was trail goes clause r in
+    new_number_small old numbered marks clause c.number_clauses.ensures (omega (arith, w, length-map old.records literals_of)) (marked_reasons trail.steps c.keep_added.new.stays marks c.mark_reasons.ensures clause r)

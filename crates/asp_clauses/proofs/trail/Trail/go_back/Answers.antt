@@ -1,12 +1,14 @@
-use Rattle.std.proofs.Common.{◌≡◌, ℕ, ◌/◌, List, length, take, get_or, sym, ◌∙◌, ap, arith, subst, Option, Bool, None}
+use Rattle.std.proofs.Common.{◌≡◌, ℕ, List, length, take, get_or, sym, ◌∙◌, ap, arith, subst}
 use Rattle.std.proofs.lemmas.List.{take-take, with_items_is}
 use Rattle.std.specs.Vec.{with_items}
+use Rattle.asp_clauses.specs.declared.trail.Truth.{Truth}
+use Rattle.asp_clauses.specs.declared.trail.Truth.TheVariants.{Unassigned}
 use Rattle.asp_clauses.specs.declared.trail.Step.{Step}
 use Rattle.asp_clauses.specs.declared.trail.Mark.{Mark}
-use Rattle.asp_clauses.specs.Trail.{TrailState, literal_at, mark_at, back_to}
+use Rattle.asp_clauses.specs.Trail.{TrailState, mark_at, back_to}
 use Rattle.asp_clauses.specs.TrailFields.{steps_of, marks_of, state_of}
 use Rattle.asp_clauses.specs.Tables.{AreTables, AreMarks}
-use Rattle.asp_clauses.specs.Moves.{gone_back, IsCleared}
+use Rattle.asp_clauses.specs.Moves.{gone_back}
 use Rattle.asp_clauses.proofs.FieldLemmas.{back_facts}
 use Rattle.asp_clauses.proofs.BackLemmas.{TakenBack, AreTables-back, taken_back}
 use Rattle.asp_clauses.proofs.GoesLemmas.{AreMarks-back}
@@ -17,13 +19,13 @@ invariant_of-self c =
     let i = c.self.inside in let v = c.self.invariant in
     let mark = c.index-mark.result.now in
     let f = back_facts i c.args.self.now c.args.level mark v c.self.view_is c.requires c.index-mark.ensures in
-    let items = i.steps.items in
+    let items = i.steps in
     let now = c.clear_values.new.values in
     let len_now : length now ≡ i.values.len = omega (arith, c.clear_values.auto.values, c.deref_mut.ensures.len) in
     let vals : (with_items i.values now).items ≡ now = with_items_is i.values now len_now in
     let tb : TakenBack (steps_of i) mark.start i.values.items now = taken_back items i.len mark.start i.values.items now (omega (arith, f.within)) (omega (arith, v.len, v.steps_size))
-    (λ place a b. subst (λ (x : List Step). IsCleared now (literal_at x place)) c.deref.ensures.value (c.clear_values.ensures.cleared place a b))
-    (λ code o. c.clear_values.ensures.others code (λ place a b x. o place a b (sym (ap (λ (y : List Step). literal_at y place / 2) c.deref.ensures.value) ∙ x)) ∙ ap (λ (x : List (Option Bool)). get_or x code None) c.deref_mut.ensures.value) in
+    c.clear_values.ensures.cleared
+    (λ code o. c.clear_values.ensures.others code o ∙ ap (λ (x : List Truth). get_or x code Unassigned) c.deref_mut.ensures.value) in
     let table = AreTables-back i.atoms (steps_of i) i.values.items now i.positions.items i.levels.items mark.start v.tables tb in
     let marks = AreMarks-back (state_of i) c.args.level v.marks f.marked in
     record {
@@ -36,7 +38,7 @@ invariant_of-self c =
       len = omega (arith, f.within, v.len);
       decided = f.fewer;
       affordable = v.affordable;
-      tables = subst (λ (x : List (Option Bool)). AreTables i.atoms (take mark.start items) x i.positions.items i.levels.items) (sym vals)
+      tables = subst (λ (x : List Truth). AreTables i.atoms (take mark.start items) x i.positions.items i.levels.items) (sym vals)
           (subst (λ (x : List Step). AreTables i.atoms x now i.positions.items i.levels.items) (take-take mark.start i.len items (omega (arith, f.within))) table);
       marks = subst (λ (x : List Step). AreMarks x (take c.args.level i.marks.items) mark.head) (sym f.steps)
           (subst (λ (x : List Mark). AreMarks (take (mark_at (marks_of i) c.args.level).start (steps_of i)) x mark.head) (sym f.marks)

@@ -4,20 +4,20 @@ use Rattle.asp_clauses.specs.TrailFields.{steps_of}
 use Rattle.asp_clauses.proofs.TableLemmas.{true_read, open_read}
 use Rattle.asp_clauses.proofs.trail.Trail.is_true.Goals as goal
 
-pub returns-in-Some-clause-holds : goal.returns-in-Some-clause-holds
-returns-in-Some-clause-holds c = λ e.
+pub returns-in-Holds-clause-holds : goal.returns-in-Holds-clause-holds
+returns-in-Holds-clause-holds c = λ e.
     let i = c.self.inside in let v = c.self.invariant in
     let atoms = ap (λ (t : TrailState). t.atoms) c.self.view_is in
-    true_read i.atoms (steps_of i) c.args.self.now.steps i.values.items i.positions.items i.levels.items c.args.code c.index.result.now v.tables (ap (λ (t : TrailState). t.steps) c.self.view_is) v.values_size (omega (arith, c.requires, atoms)) c.index.ensures (let is = c.in-Some.is in cc)
+    true_read i.atoms (steps_of i) c.args.self.now.steps i.values.items i.positions.items i.levels.items c.args.code c.index.result.now v.tables (ap (λ (t : TrailState). t.steps) c.self.view_is) v.values_size (omega (arith, c.requires, atoms)) c.index.ensures c.in-Holds.is
 
-pub returns-in-Some-clause-other : goal.returns-in-Some-clause-other
-returns-in-Some-clause-other c = λ e h.
+pub returns-in-Unassigned-clause-other : goal.returns-in-Unassigned-clause-other
+returns-in-Unassigned-clause-other c = λ e h.
     let i = c.self.inside in let v = c.self.invariant in
     let atoms = ap (λ (t : TrailState). t.atoms) c.self.view_is in
-    open_read i.atoms (steps_of i) c.args.self.now.steps i.values.items i.positions.items i.levels.items c.args.code c.index.result.now v.tables (ap (λ (t : TrailState). t.steps) c.self.view_is) v.values_size (omega (arith, h, atoms)) c.index.ensures (λ x. let is = c.in-Some.is in cc)
+    open_read i.atoms (steps_of i) c.args.self.now.steps i.values.items i.positions.items i.levels.items c.args.code c.index.result.now v.tables (ap (λ (t : TrailState). t.steps) c.self.view_is) v.values_size (omega (arith, h, atoms)) c.index.ensures (λ x. let is = c.in-Unassigned.is in cc)
 
-pub returns-in-None-clause-other : goal.returns-in-None-clause-other
-returns-in-None-clause-other c = λ e h.
+pub returns-in-Fails-clause-other : goal.returns-in-Fails-clause-other
+returns-in-Fails-clause-other c = λ e h.
     let i = c.self.inside in let v = c.self.invariant in
     let atoms = ap (λ (t : TrailState). t.atoms) c.self.view_is in
-    open_read i.atoms (steps_of i) c.args.self.now.steps i.values.items i.positions.items i.levels.items c.args.code c.index.result.now v.tables (ap (λ (t : TrailState). t.steps) c.self.view_is) v.values_size (omega (arith, h, atoms)) c.index.ensures (λ x. let is = c.in-None.is in cc)
+    open_read i.atoms (steps_of i) c.args.self.now.steps i.values.items i.positions.items i.levels.items c.args.code c.index.result.now v.tables (ap (λ (t : TrailState). t.steps) c.self.view_is) v.values_size (omega (arith, h, atoms)) c.index.ensures (λ x. let is = c.in-Fails.is in cc)

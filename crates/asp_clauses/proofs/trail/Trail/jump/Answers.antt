@@ -1,4 +1,4 @@
-use Rattle.std.proofs.Common.{subst, sym, ◌∙◌, ap}
+use Rattle.std.proofs.Common.{◌≡◌, arith, subst, sym, ◌∙◌, ap}
 use Rattle.std.proofs.Common.{Some}
 use Rattle.asp_clauses.specs.declared.trail.Step.{Step}
 use Rattle.asp_clauses.specs.Book.{Goes}
@@ -15,3 +15,6 @@ returns-clause-goes c =
     let step : Step = record { literal = c.args.lit; reason = Some c.args.clause } in
     subst (λ (t : TrailState). Goes book t) (sym (c.place.ensures ∙ ap (λ (t : TrailState). placed t step) c.go_back.ensures))
     (Goes-jumped book now c.args.level c.args.lit c.args.clause g c.requires.level few c.requires.code c.requires.unassigned c.requires.clause c.requires.implied)
+
+pub place-requires-clause-number : goal.place-requires-clause-number
+place-requires-clause-number c = λ number e. let same : c.args.clause ≡ number = cc in omega (arith, same, c.requires.clause, c.show_numbers.ensures)

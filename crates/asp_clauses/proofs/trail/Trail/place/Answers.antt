@@ -1,6 +1,8 @@
-use Rattle.std.proofs.Common.{◌≡◌, ℕ, ◌+◌, ◌/◌, List, [], ◌∷◌, ◌++◌, take, set, sym, ◌∙◌, ap, arith, subst, length-set, cond, Bool, Option, Some, true, false}
+use Rattle.std.proofs.Common.{◌≡◌, ℕ, ◌+◌, ◌/◌, List, [], ◌∷◌, ◌++◌, length, take, set, sym, ◌∙◌, ap, arith, subst, length-set, cond}
 use Rattle.std.specs.Int.{from_bool}
 use Rattle.std.specs.Option.{is_some}
+use Rattle.asp_clauses.specs.declared.trail.Truth.{Truth}
+use Rattle.asp_clauses.specs.declared.trail.Truth.TheVariants.{Holds, Fails}
 use Rattle.asp_clauses.specs.declared.trail.Step.{Step}
 use Rattle.asp_clauses.specs.declared.trail.Mark.{Mark}
 use Rattle.asp_clauses.specs.Trail.{TrailState, is_decision}
@@ -23,11 +25,11 @@ index_mut-requires-3 c =
     let f = place_facts i c.args.self.now c.args.step v c.self.view_is c.requires.code c.requires.unassigned in
     omega (arith, f.negation, c.negation.ensures, v.values_size, i.values.ok)
 
-pub index_mut-requires-6 : goal.index_mut-requires-6
-index_mut-requires-6 c =
+pub set-requires-clause-place : goal.set-requires-clause-place
+set-requires-clause-place c =
     let i = c.self.inside in let v = c.self.invariant in
     let f = place_facts i c.args.self.now c.args.step v c.self.view_is c.requires.code c.requires.unassigned in
-    omega (arith, f.few, v.steps_size, i.steps.ok)
+    omega (arith, f.few, v.steps_size)
 
 pub invariant_of-self : goal.invariant_of-self
 invariant_of-self c =
@@ -39,15 +41,15 @@ invariant_of-self c =
     let mark : Mark = record { start = i.len; head = i.head } in
     let here : mark ≡ mark_here (steps_of i) i.head = ap (λ (n : ℕ). let m : Mark = record { start = n; head = i.head } in m) (sym len) in
     let more : c.from.result ≡ from_bool (is_decision step) = c.from.ensures ∙ ap from_bool (not_back (is_some step.reason) c.is_none.result c.is_none.ensures) in
-    let steps = steps_after i.steps.items i.len step (omega (arith, f.few, v.steps_size)) in
+    let steps = ap (take (i.len + 1)) c.set.ensures ∙ steps_after i.steps i.len step (omega (arith, f.few, v.steps_size)) in
     let marks = marks_after i.marks.items i.decisions c.from.result mark step (omega (arith, f.few, v.decided, v.marks_size)) more in
     let total = decisions_after (steps_of i) (marks_of i) i.head step i.decisions c.from.result v.marks decided more in
-    let truths : set (set i.values.items step.literal (Some true)) c.negation.result (Some false) ≡ assigned i.values.items step.literal = ap (λ (n : ℕ). set (set i.values.items step.literal (Some true)) n (Some false)) c.negation.ensures in
-    let lengths = length-set i.steps.items i.len step in
+    let truths : set (set i.values.items step.literal Holds) c.negation.result Fails ≡ assigned i.values.items step.literal = ap (λ (n : ℕ). set (set i.values.items step.literal Holds) n Fails) c.negation.ensures in
+    let lengths = ap length c.set.ensures ∙ length-set i.steps i.len step in
     record {
       few_atoms = v.few_atoms;
       steps_size = lengths ∙ v.steps_size;
-      values_size = length-set (set i.values.items step.literal (Some true)) c.negation.result (Some false) ∙ length-set i.values.items step.literal (Some true) ∙ v.values_size;
+      values_size = length-set (set i.values.items step.literal Holds) c.negation.result Fails ∙ length-set i.values.items step.literal Holds ∙ v.values_size;
       positions_size = length-set i.positions.items (step.literal / 2) (i.len + 1) ∙ v.positions_size;
       levels_size = length-set i.levels.items (step.literal / 2) (i.decisions + c.from.result) ∙ v.levels_size;
       marks_size = length-set i.marks.items i.decisions mark ∙ v.marks_size;
@@ -57,8 +59,8 @@ invariant_of-self c =
       tables =
           let table = AreTables-push i.atoms (steps_of i) i.values.items i.positions.items i.levels.items step (i.decisions + c.from.result) v.tables f.code f.unassigned v.values_size v.positions_size v.levels_size total in
           let depths = set i.levels.items (step.literal / 2) (i.decisions + c.from.result) in
-          subst (λ (x : List Step). AreTables i.atoms x (set (set i.values.items step.literal (Some true)) c.negation.result (Some false)) (set i.positions.items (step.literal / 2) (i.len + 1)) depths) (sym steps)
-          (subst (λ (x : List (Option Bool)). AreTables i.atoms (steps_of i ++ step ∷ []) x (set i.positions.items (step.literal / 2) (i.len + 1)) depths) (sym truths)
+          subst (λ (x : List Step). AreTables i.atoms x (set (set i.values.items step.literal Holds) c.negation.result Fails) (set i.positions.items (step.literal / 2) (i.len + 1)) depths) (sym steps)
+          (subst (λ (x : List Truth). AreTables i.atoms (steps_of i ++ step ∷ []) x (set i.positions.items (step.literal / 2) (i.len + 1)) depths) (sym truths)
           (subst (λ (n : ℕ). AreTables i.atoms (steps_of i ++ step ∷ []) (assigned i.values.items step.literal) (set i.positions.items (step.literal / 2) (n + 1)) depths) len table));
       marks = subst (λ (x : List Step). AreMarks x (take (i.decisions + c.from.result) (set i.marks.items i.decisions mark)) i.head) (sym steps)
           (subst (λ (x : List Mark). AreMarks (steps_of i ++ step ∷ []) x i.head) (sym marks)
@@ -75,7 +77,7 @@ returns c =
     let mark : Mark = record { start = i.len; head = i.head } in
     let here : mark ≡ mark_here (steps_of i) i.head = ap (λ (n : ℕ). let m : Mark = record { start = n; head = i.head } in m) (sym len) in
     let more : c.from.result ≡ from_bool (is_decision step) = c.from.ensures ∙ ap from_bool (not_back (is_some step.reason) c.is_none.result c.is_none.ensures) in
-    let steps = steps_after i.steps.items i.len step (omega (arith, f.few, v.steps_size)) in
+    let steps = ap (take (i.len + 1)) c.set.ensures ∙ steps_after i.steps i.len step (omega (arith, f.few, v.steps_size)) in
     let marks = marks_after i.marks.items i.decisions c.from.result mark step (omega (arith, f.few, v.decided, v.marks_size)) more in
     let state : List Step → List Mark → TrailState = λ s m. record { atoms = i.atoms; budget = i.budget; count = i.count + 1; steps = s; marks = m; head = i.head } in
     ap (λ (s : List Step). state s (take (i.decisions + c.from.result) (set i.marks.items i.decisions mark))) steps

@@ -1,7 +1,6 @@
-use Rattle.std.proofs.Common.{◌≡◌, ℕ, ◌<◌, List, length, take, map, sym, ◌∙◌, ap, arith, subst}
-use Rattle.std.proofs.lemmas.List.{with_items_is}
-use Rattle.std.specs.Vec.{with_items}
+use Rattle.std.proofs.Common.{ℕ, ◌<◌, List, length, map, sym, ◌∙◌, ap, subst}
 use Rattle.asp_clauses.specs.declared.trail.Step.{Step}
+use Rattle.asp_clauses.specs.Records.{end}
 use Rattle.asp_clauses.specs.Trail.{TrailState}
 use Rattle.asp_clauses.specs.TrailFields.{steps_of, marks_of, state_of}
 use Rattle.asp_clauses.specs.Tables.{AreTables, AreMarks}
@@ -11,21 +10,20 @@ use Rattle.asp_clauses.proofs.trail.Trail.renumber.Goals as goal
 
 pub relabel-requires-clause-reasons : goal.relabel-requires-clause-reasons
 relabel-requires-clause-reasons c =
-    let i = c.self.inside in
-    let e = ap (take i.len) c.deref_mut.ensures.value ∙ ap (λ (t : TrailState). t.steps) c.self.view_is in
-    subst (λ (x : List Step). (clause : ℕ) → IsReason x clause → clause < length c.args.records.now) (sym e) c.requires.reasons
+    subst (λ (x : List Step). (clause : ℕ) → IsReason x clause → clause < length c.args.records.now) (sym (ap (λ (t : TrailState). t.steps) c.self.view_is)) c.requires.reasons
+
+pub relabel-requires-clause-numbers : goal.relabel-requires-clause-numbers
+relabel-requires-clause-numbers c =
+    subst (λ (x : List Step). (clause : ℕ) → IsReason x clause → number_in c.args.records.now clause < end) (sym (ap (λ (t : TrailState). t.steps) c.self.view_is)) c.requires.numbers
 
 pub invariant_of-self : goal.invariant_of-self
 invariant_of-self c =
     let i = c.self.inside in let v = c.self.invariant in
     let rows = c.args.records.now in
-    let new = c.relabel.new.steps in
-    let len : length new ≡ i.steps.len = omega (arith, c.relabel.ensures.as_many, c.deref_mut.ensures.len) in
-    let is : (with_items i.steps new).items ≡ new = with_items_is i.steps new len in
-    let steps : take i.len (with_items i.steps new).items ≡ map (relabelled rows) (steps_of i) = ap (take i.len) is ∙ c.relabel.ensures.steps ∙ ap (λ (x : List Step). map (relabelled rows) (take i.len x)) c.deref_mut.ensures.value in
+    let steps = c.relabel.ensures.steps in
     record {
       few_atoms = v.few_atoms;
-      steps_size = ap length is ∙ omega (arith, len, i.steps.ok, v.steps_size);
+      steps_size = c.relabel.ensures.as_many ∙ v.steps_size;
       values_size = v.values_size;
       positions_size = v.positions_size;
       levels_size = v.levels_size;
@@ -41,9 +39,5 @@ pub returns : goal.returns
 returns c =
     let i = c.self.inside in
     let rows = c.args.records.now in
-    let new = c.relabel.new.steps in
-    let len : length new ≡ i.steps.len = omega (arith, c.relabel.ensures.as_many, c.deref_mut.ensures.len) in
-    let is : (with_items i.steps new).items ≡ new = with_items_is i.steps new len in
-    let steps : take i.len (with_items i.steps new).items ≡ map (relabelled rows) (steps_of i) = ap (take i.len) is ∙ c.relabel.ensures.steps ∙ ap (λ (x : List Step). map (relabelled rows) (take i.len x)) c.deref_mut.ensures.value in
-    ap (λ (x : List Step). let t : TrailState = record (state_of i) { steps = x } in t) steps
+    ap (λ (x : List Step). let t : TrailState = record (state_of i) { steps = x } in t) c.relabel.ensures.steps
     ∙ ap (λ (t : TrailState). let u : TrailState = record t { steps = map (relabelled rows) t.steps } in u) c.self.view_is

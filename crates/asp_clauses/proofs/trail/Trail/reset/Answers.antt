@@ -1,11 +1,11 @@
-use Rattle.std.proofs.Common.{◌≡◌, ◌/◌, List, [], length, get_or, sym, ◌∙◌, ap, arith, subst, refl, Option, Bool, None}
+use Rattle.std.proofs.Common.{◌≡◌, List, [], length, get_or, sym, ◌∙◌, ap, arith, subst, refl}
 use Rattle.std.proofs.lemmas.List.{with_items_is}
 use Rattle.std.specs.Vec.{with_items}
-use Rattle.asp_clauses.specs.declared.trail.Step.{Step}
-use Rattle.asp_clauses.specs.Trail.{TrailState, literal_at}
+use Rattle.asp_clauses.specs.declared.trail.Truth.{Truth}
+use Rattle.asp_clauses.specs.declared.trail.Truth.TheVariants.{Unassigned}
+use Rattle.asp_clauses.specs.Trail.{TrailState}
 use Rattle.asp_clauses.specs.TrailFields.{steps_of}
 use Rattle.asp_clauses.specs.Tables.{AreTables}
-use Rattle.asp_clauses.specs.Moves.{IsCleared}
 use Rattle.asp_clauses.proofs.BackLemmas.{TakenBack, AreTables-back, taken_back}
 use Rattle.asp_clauses.proofs.GoesLemmas.{Goes-empty, AreMarks-empty}
 use Rattle.asp_clauses.proofs.trail.Trail.reset.Goals as goal
@@ -13,13 +13,13 @@ use Rattle.asp_clauses.proofs.trail.Trail.reset.Goals as goal
 pub invariant_of-self : goal.invariant_of-self
 invariant_of-self c =
     let i = c.self.inside in let v = c.self.invariant in
-    let items = i.steps.items in
+    let items = i.steps in
     let now = c.clear_values.new.values in
     let len_now : length now ≡ i.values.len = omega (arith, c.clear_values.auto.values, c.deref_mut.ensures.len) in
     let vals : (with_items i.values now).items ≡ now = with_items_is i.values now len_now in
     let tb : TakenBack (steps_of i) 0 i.values.items now = taken_back items i.len 0 i.values.items now (omega arith) (omega (arith, v.len, v.steps_size))
-    (λ place a b. subst (λ (x : List Step). IsCleared now (literal_at x place)) c.deref.ensures.value (c.clear_values.ensures.cleared place a b))
-    (λ code o. c.clear_values.ensures.others code (λ place a b x. o place a b (sym (ap (λ (y : List Step). literal_at y place / 2) c.deref.ensures.value) ∙ x)) ∙ ap (λ (x : List (Option Bool)). get_or x code None) c.deref_mut.ensures.value) in
+    c.clear_values.ensures.cleared
+    (λ code o. c.clear_values.ensures.others code o ∙ ap (λ (x : List Truth). get_or x code Unassigned) c.deref_mut.ensures.value) in
     let table = AreTables-back i.atoms (steps_of i) i.values.items now i.positions.items i.levels.items 0 v.tables tb in
     record {
       few_atoms = v.few_atoms;
@@ -31,7 +31,7 @@ invariant_of-self c =
       len = omega arith;
       decided = omega arith;
       affordable = omega arith;
-      tables = subst (λ (x : List (Option Bool)). AreTables i.atoms [] x i.positions.items i.levels.items) (sym vals) table;
+      tables = subst (λ (x : List Truth). AreTables i.atoms [] x i.positions.items i.levels.items) (sym vals) table;
       marks = AreMarks-empty;
     }
 

@@ -1,7 +1,15 @@
-use Rattle.std.proofs.Common.{◌≡◌, ◌*◌, ℕ, [], ap, ◌∙◌, sym, subst, refl, arith}
+use Rattle.std.proofs.Common.{◌≡◌, ◌*◌, ℕ, [], None, false, ap, ◌∙◌, sym, subst, refl, arith}
 use Rattle.asp_search.specs.Seen.{AreCodes}
 use Rattle.asp_search.specs.Solver.{DecidesAssumed, IsCursor}
 use Rattle.asp_search.specs.State.{SearchState}
+use Rattle.asp_search.specs.declared.stage.Stage.TheVariants.{Begun}
+use Rattle.asp_search.specs.declared.solver.Solver.{Solver}
+use Rattle.asp_search.specs.declared.search.Search.TheInside.{Inside}
+use Rattle.asp_search.specs.SearchFields.{state_of}
+use Rattle.asp_search.specs.Learned.{firm_of}
+use Rattle.asp_search.proofs.Finding.{begun_view}
+use Rattle.asp_search.proofs.LearnedClauses.{AreInRange-firm, AreLearned-firm, firm_is_firm}
+use Rattle.asp_search.proofs.Grounding.{IsGround-none}
 use Rattle.asp_search.proofs.search.Search.begin.Goals as goal
 
 pub invariant_of-self : goal.invariant_of-self
@@ -17,13 +25,14 @@ invariant_of-self c =
     record {
       ready = record {
         fitted = record {
-          goes = c.reset.ensures.goes s.book ready.fitted.goes.same_atoms;
+          goes = c.drop_loose.ensures.goes;
           few = rw c.reset.ensures.atoms ready.fitted.few;
           codes = rw c.reset.ensures.atoms ready.fitted.codes;
           heap_atoms = rw c.reset.ensures.atoms (c.unwind.ensures ∙ ready.fitted.heap_atoms);
         };
-        ranges = rw c.reset.ensures.atoms ready.ranges;
-        learned = ready.learned;
+        ranges = rw (c.reset.ensures.atoms, c.drop_loose.ensures.clauses) (AreInRange-firm s.trail.atoms s.book.kinds s.book.clauses ready.learned.as_many ready.learned ready.ranges);
+        learned = rw (c.drop_loose.ensures.clauses, c.drop_loose.ensures.kinds) (AreLearned-firm s.book.kinds s.book.clauses ready.learned);
+        ground = IsGround-none _ _ _;
         unmarked = ready.unmarked;
         assumptions = rw (c.reset.ensures.atoms, items) (record { codes = codes; distinct = c.requires.different });
         assumed = rw c.reset.ensures.empty decides;
@@ -34,3 +43,26 @@ invariant_of-self c =
       spent = λ e. cc;
       asked = λ new begun. absurd (begun refl);
     }
+
+pub drop_loose-requires-clause-goes : goal.drop_loose-requires-clause-goes
+drop_loose-requires-clause-goes c =
+    c.reset.ensures.goes c.self.inside.solver.book c.self.invariant.ready.fitted.goes.same_atoms
+
+pub returns-clause-begun : goal.returns-clause-begun
+returns-clause-begun c =
+    let old = c.self.inside in
+    let s = old.solver in
+    let solver : Solver = record s {
+      book = c.drop_loose.new.book;
+      trail = c.reset.new.self;
+      heap = c.unwind.new.heap;
+      assumed = c.in_ok-assumed.assumed;
+      cursor = 0;
+      held = 0;
+      looked = 0;
+      ground_loose = false;
+    } in
+    let new : Inside = record old { solver = solver; ordered = None; stage = Begun } in
+    let same : firm_of solver.book ≡ firm_of s.book = rw (c.drop_loose.ensures.clauses, c.drop_loose.ensures.kinds) (firm_is_firm s.book.kinds s.book.clauses) in
+    subst (λ (before : SearchState). state_of new ≡ record before { count = 0; clauses = before.firm; assumed = c.args.assume.now; trail = []; ordered = None; stage = Begun }) c.self.view_is
+    (begun_view old new c.args.assume.now c.reset.ensures.atoms c.reset.ensures.budget c.reset.ensures.count c.reset.ensures.empty c.drop_loose.ensures.clauses same c.in_ok-assumed.ensures.items refl refl refl refl)

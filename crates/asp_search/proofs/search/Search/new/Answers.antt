@@ -1,6 +1,9 @@
-use Rattle.std.proofs.Common.{◌∙◌, sym, [], refl, arith}
+use Rattle.std.proofs.Common.{◌∙◌, sym, [], map, refl, arith}
+use Rattle.asp_clauses.specs.Kept.{is_firm}
+use Rattle.asp_clauses.proofs.KeptLemmas.{kept-none}
 use Rattle.asp_search.specs.Solver.{AreAssumptions, AreInRange, DecidesAssumed, IsCursor}
 use Rattle.asp_search.proofs.LearnedClauses.{AreLearned-none}
+use Rattle.asp_search.proofs.Grounding.{IsGround-none}
 use Rattle.asp_search.proofs.search.Search.new.Goals as goal
 
 pub invariant_of-result : goal.invariant_of-result
@@ -23,10 +26,11 @@ invariant_of-result c =
           goes = c.in_ok-trail.ensures.goes c.in_ok-book.book c.in_ok-book.ensures.atoms;
           few = rw c.in_ok-trail.ensures.atoms c.requires;
           codes = rw c.in_ok-trail.ensures.atoms c.in_ok-seen.ensures.codes;
-          heap_atoms = c.in_ok-heap.ensures ∙ sym c.in_ok-trail.ensures.atoms;
+          heap_atoms = c.in_ok-heap.ensures.atoms ∙ sym c.in_ok-trail.ensures.atoms;
         };
         ranges = rw c.in_ok-book.ensures.empty ranges;
         learned = rw (c.in_ok-book.ensures.empty, c.in_ok-book.ensures.no_kinds) AreLearned-none;
+        ground = IsGround-none _ _ _;
         unmarked = c.in_ok-seen.ensures.none;
         assumptions = rw c.new-8.ensures.items assumptions;
         assumed = rw (c.new-8.ensures.items, c.in_ok-trail.ensures.empty) decides;
@@ -37,3 +41,19 @@ invariant_of-result c =
       spent = λ e. cc;
       asked = λ new begun. absurd (new refl);
     }
+
+pub returns : goal.returns
+returns c = record {
+  atoms_are = c.in_ok-trail.ensures.atoms;
+  few = rw c.in_ok-trail.ensures.atoms c.requires;
+  budget_is = c.in_ok-trail.ensures.budget;
+  count = c.in_ok-trail.ensures.count;
+  clauses = c.in_ok-book.ensures.empty;
+  firm = rw c.in_ok-book.ensures.empty (kept-none (map is_firm c.in_ok-book.book.kinds));
+  assumed = c.new-8.ensures.items;
+  trail = rw c.in_ok-trail.ensures.empty refl;
+  ordered = refl;
+  stage = refl;
+  decisions = refl;
+  conflicts = c.new-6.ensures;
+}

@@ -1,9 +1,9 @@
 use Rattle.std.proofs.Common.{◌≤◌, ◌-◌, length}
-use Rattle.asp_search.specs.Seen.{AreCodes}
-use Rattle.asp_search.proofs.decide.sink.Given as goal
+use Rattle.asp_decide.specs.DecisionHeap.{AreAtoms}
+use Rattle.asp_decide.proofs.decide.sink.Given as goal
 
 abbrev pub invariant-loop-at : goal.invariant-loop-at
-invariant-loop-at l = (l.at ≤ l.end) × AreCodes (length l.places) l.heap
+invariant-loop-at l = (l.at ≤ l.end) × AreAtoms (length l.places) l.heap
 
 abbrev pub decreases-loop-at : goal.decreases-loop-at
 decreases-loop-at l = l.end - l.at

@@ -1,6 +1,6 @@
 use Rattle.std.proofs.Common.{ℕ, ◌<◌, ◌+◌, ◌*◌, ◌⊎◌}
 use Rattle.asp_clauses.specs.Trail.{IsPlaced}
-use Rattle.asp_search.proofs.decide.first_unassigned.Given as goal
+use Rattle.asp_decide.proofs.decide.first_unassigned.Given as goal
 
 abbrev pub invariant-loop-atom : goal.invariant-loop-atom
 invariant-loop-atom l =

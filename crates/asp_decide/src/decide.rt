@@ -1,15 +1,14 @@
 //! Which atom is decided next, and with which phase: the unassigned one of the highest activity, from a heap.
 //!
-//! Nothing but speed rests on activities, phases and the heap's order, so contracts say only what keeps a call safe.
+//! Nothing but speed rests on activities and the heap's order, so contracts speak of atoms and phases alone.
 
-ghost use Rattle.std.specs.Prelude.{◌≡◌, ℕ, ◌+◌, ◌*◌, ◌/◌, ◌<◌, ◌≤◌, ◌^◌, ◌⊎◌, false, length, None, IsTrue, IfOk, IfSome, OnSome, slice_index};
+ghost use Rattle.std.specs.Prelude.{◌≡◌, ℕ, ◌+◌, ◌*◌, ◌/◌, ◌<◌, ◌≤◌, ◌^◌, ◌⊎◌, false, length, None, IsTrue, IfOk, IfSome, OnSome, replicate, slice_index, slice_index_or, slice_set};
 ghost use Rattle.asp_clauses.specs.Literal.{most_atoms};
 ghost use Rattle.asp_clauses.specs.Trail.{IsPlaced, IsUnassigned};
-ghost use Rattle.asp_search.specs.Seen.{AreCodes};
-ghost use Rattle.asp_search.specs.Found.{IsTotal};
+ghost use Rattle.asp_decide.specs.DecisionHeap.{AreAtoms};
+ghost use Rattle.asp_decide.specs.Total.{IsTotal};
 
-use crate::NoMemory;
-use asp_clauses::Trail;
+use asp_clauses::{NoMemory, Trail};
 use std::alloc::Global;
 use std::marker::Model;
 
@@ -42,21 +41,23 @@ pub struct DecisionHeap {
 }
 
 impl Model for DecisionHeap {
-    ghost use Rattle.asp_search.specs.DecisionHeap.{HeapState, IsHeap};
+    ghost use Rattle.asp_decide.specs.DecisionHeap.{HeapState, IsHeap};
     ghost use Rattle.std.specs.Prelude.{length};
 
     ghost Value = { HeapState };
 
-    ghost view = { λ o. record { atoms = length o.activities.items; waiting = o.waiting } };
+    ghost view = { λ o. record { atoms = length o.activities.items; waiting = o.waiting; phases = o.phases.items } };
 
     ghost invariant = { λ o. IsHeap o.activities.items o.slots.items o.waiting o.places.items o.phases.items };
 }
 
 impl DecisionHeap {
-    /// All atoms wait.
+    /// All atoms wait, and each was false last.
     pub fn new(alloc: Global, atoms: u32) -> Result<DecisionHeap, NoMemory>
         requires { atoms ≤ most_atoms }
-        ensures { IfOk result (λ heap. heap.atoms ≡ atoms) }
+        ensures atoms { IfOk result (λ heap. heap.atoms ≡ atoms) }
+        ensures waiting { IfOk result (λ heap. heap.waiting ≡ atoms) }
+        ensures phases { IfOk result (λ heap. heap.phases ≡ replicate atoms false) }
     {
         let mut slots = vec![in alloc; 0; atoms as usize]?;
         let mut places = vec![in alloc; 0; atoms as usize]?;
@@ -84,6 +85,7 @@ impl DecisionHeap {
         ensures atom { IfSome result (λ atom. atom < self.old.atoms) }
         ensures fewer { OnSome result (self.new.waiting < self.old.waiting) }
         ensures atoms { self.new.atoms ≡ self.old.atoms }
+        ensures phases { self.new.phases ≡ self.old.phases }
     {
         if self.waiting == 0 {
             return None;
@@ -100,7 +102,8 @@ impl DecisionHeap {
     /// Lets the atom wait again.
     pub fn insert(&mut self, atom: u32)
         requires { atom < self.old.atoms }
-        ensures { self.new.atoms ≡ self.old.atoms }
+        ensures atoms { self.new.atoms ≡ self.old.atoms }
+        ensures phases { self.new.phases ≡ self.old.phases }
     {
         let last = self.waiting as usize;
         if self.places[atom as usize] == ABSENT && last < self.slots.len() {
@@ -114,7 +117,8 @@ impl DecisionHeap {
     /// Makes the atom more active.
     pub fn bump(&mut self, atom: u32)
         requires { atom < self.old.atoms }
-        ensures { self.new.atoms ≡ self.old.atoms }
+        ensures atoms { self.new.atoms ≡ self.old.atoms }
+        ensures phases { self.new.phases ≡ self.old.phases }
     {
         let activity = self.activities[atom as usize].saturating_add(self.bump);
         self.activities[atom as usize] = activity;
@@ -135,7 +139,8 @@ impl DecisionHeap {
 
     /// Makes later bumps count more: so all activities decay by a factor of 0.95, as they do in minisat.
     pub fn decay(&mut self)
-        ensures { self.new.atoms ≡ self.old.atoms }
+        ensures atoms { self.new.atoms ≡ self.old.atoms }
+        ensures phases { self.new.phases ≡ self.old.phases }
     {
         self.bump = self.bump.saturating_add(self.bump / 19 + 1);
     }
@@ -143,6 +148,7 @@ impl DecisionHeap {
     /// The value that the atom had last.
     pub fn phase(&self, atom: u32) -> bool
         requires { atom < self.now.atoms }
+        ensures { result ≡ slice_index_or self.now.phases atom false }
     {
         self.phases[atom as usize]
     }
@@ -150,7 +156,8 @@ impl DecisionHeap {
     /// Keeps the atom's value for its next decision.
     pub fn keep_phase(&mut self, atom: u32, value: bool)
         requires { atom < self.old.atoms }
-        ensures { self.new.atoms ≡ self.old.atoms }
+        ensures atoms { self.new.atoms ≡ self.old.atoms }
+        ensures phases { self.new.phases ≡ slice_set self.old.phases atom value }
     {
         self.phases[atom as usize] = value;
     }
@@ -227,7 +234,7 @@ fn is_unassigned(trail: &Trail, atom: u32) -> bool
 /// Writes each place's number.
 fn number(numbers: &mut [u32])
     requires { length numbers.old ≤ most_atoms }
-    ensures { AreCodes (length numbers.new) numbers.new }
+    ensures { AreAtoms (length numbers.new) numbers.new }
 {
     for place in 0..numbers.len() {
         numbers[place] = place as u32;
@@ -246,8 +253,8 @@ fn exchange(heap: &mut [u32], places: &mut [u32], first: usize, second: usize)
     requires few { length heap.old ≤ most_atoms }
     requires first { first < length heap.old }
     requires second { second < length heap.old }
-    requires codes { AreCodes (length places.old) heap.old }
-    ensures { AreCodes (length places.new) heap.new }
+    requires codes { AreAtoms (length places.old) heap.old }
+    ensures { AreAtoms (length places.new) heap.new }
 {
     let upper = heap[first];
     let lower = heap[second];
@@ -261,9 +268,9 @@ fn exchange(heap: &mut [u32], places: &mut [u32], first: usize, second: usize)
 fn raise(heap: &mut [u32], places: &mut [u32], activities: &[u64], start: usize)
     requires few { length heap.old ≤ most_atoms }
     requires start { start < length heap.old }
-    requires codes { AreCodes (length places.old) heap.old }
+    requires codes { AreAtoms (length places.old) heap.old }
     requires activities { length activities.now ≡ length places.old }
-    ensures { AreCodes (length places.new) heap.new }
+    ensures { AreAtoms (length places.new) heap.new }
 {
     let mut at = start;
     while at > 0 {
@@ -280,9 +287,9 @@ fn raise(heap: &mut [u32], places: &mut [u32], activities: &[u64], start: usize)
 fn sink(heap: &mut [u32], places: &mut [u32], activities: &[u64], end: usize)
     requires few { length heap.old ≤ most_atoms }
     requires end { end ≤ length heap.old }
-    requires codes { AreCodes (length places.old) heap.old }
+    requires codes { AreAtoms (length places.old) heap.old }
     requires activities { length activities.now ≡ length places.old }
-    ensures { AreCodes (length places.new) heap.new }
+    ensures { AreAtoms (length places.new) heap.new }
 {
     let mut at = 0;
     while 2 * at + 1 < end {
@@ -300,7 +307,7 @@ fn more_active(heap: &[u32], activities: &[u64], left: usize, end: usize) -> usi
     requires left { left < end }
     requires end { end ≤ length heap.now }
     requires few { length heap.now ≤ most_atoms }
-    requires codes { AreCodes (length activities.now) heap.now }
+    requires codes { AreAtoms (length activities.now) heap.now }
     ensures within { result < end }
     ensures below { left ≤ result }
 {

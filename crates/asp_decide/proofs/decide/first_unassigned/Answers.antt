@@ -1,5 +1,5 @@
 use Rattle.std.proofs.Common.{below_more, arith}
-use Rattle.asp_search.proofs.decide.first_unassigned.Goals as goal
+use Rattle.asp_decide.proofs.decide.first_unassigned.Goals as goal
 
 pub loop-atom-preserved : goal.loop-atom-preserved
 loop-atom-preserved c =

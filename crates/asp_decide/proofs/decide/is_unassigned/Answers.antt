@@ -2,7 +2,7 @@ use Rattle.std.proofs.Common.{◌≡◌, ◌+◌, ◌*◌, ℕ, Bool, true, fals
 use Rattle.std.proofs.lemmas.Bool.{cases_Bool}
 use Rattle.asp_clauses.specs.Trail.{IsPlaced}
 use Rattle.asp_clauses.proofs.LiteralLemmas.{negated_odd}
-use Rattle.asp_search.proofs.decide.is_unassigned.Goals as goal
+use Rattle.asp_decide.proofs.decide.is_unassigned.Goals as goal
 
 pub returns-in-Some-clause-assigned : goal.returns-in-Some-clause-assigned
 returns-in-Some-clause-assigned c = λ _.

@@ -1,5 +1,5 @@
 use Rattle.std.proofs.Common.{◌≡◌}
-use Rattle.asp_search.proofs.decide.most_active.Given as goal
+use Rattle.asp_decide.proofs.decide.most_active.Given as goal
 
 abbrev pub invariant-loop-atom : goal.invariant-loop-atom
 invariant-loop-atom l = l.heap.atoms ≡ l.initial.heap.atoms

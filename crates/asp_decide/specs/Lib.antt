@@ -1,0 +1,2 @@
+pub mod DecisionHeap
+pub mod Total

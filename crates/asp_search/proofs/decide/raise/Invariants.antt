@@ -1,9 +1,0 @@
-use Rattle.std.proofs.Common.{◌<◌, length}
-use Rattle.asp_search.specs.Seen.{AreCodes}
-use Rattle.asp_search.proofs.decide.raise.Given as goal
-
-abbrev pub invariant-loop-at : goal.invariant-loop-at
-invariant-loop-at l = (l.at < length l.heap) × AreCodes (length l.places) l.heap
-
-abbrev pub decreases-loop-at : goal.decreases-loop-at
-decreases-loop-at l = l.at
