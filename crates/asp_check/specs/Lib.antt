@@ -1,10 +1,4 @@
-pub mod Variables
-pub mod Bindings
-pub mod Closure
-pub mod Safe
 pub mod Counts
 pub mod Refusals
-pub use Rattle.asp_checked.specs.Condition
 pub mod Laws
-pub mod Index
-pub mod Representatives
+pub use Rattle.asp_checked.specs.Condition

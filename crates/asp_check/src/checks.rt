@@ -8,9 +8,9 @@ ghost use Rattle.asp_checked.specs.Condition.{IsCheckable};
 ghost use Rattle.asp_check.specs.Refusals.{IsRefusal};
 
 use crate::counts::{most_arguments, most_literals, most_variables};
-use crate::safety::{first_unsafe, shown};
 use asp_checked::Checked;
 use asp_defs::{NoMemory, Program, Rule, Var, Which};
+use asp_safety::safety::{first_unsafe, shown};
 use std::alloc::{AllocError, Global};
 use thiserror::Error;
 

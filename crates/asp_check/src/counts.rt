@@ -1,5 +1,5 @@
 //! What the limits count.
-ghost use Rattle.std.specs.Prelude.{◌≡◌, ℕ, ◌+◌, ◌≤◌, map, max, length, IfOk};
+ghost use Rattle.std.specs.Prelude.{◌≡◌, ◌+◌, map, max, length, IfOk};
 ghost use Rattle.std.specs.List.{flat_map, sum_by};
 ghost use Rattle.asp_defs.specs.Limits.{
   rule_atoms,
@@ -9,9 +9,9 @@ ghost use Rattle.asp_defs.specs.Limits.{
 };
 ghost use Rattle.asp_check.specs.Counts.{arguments_with, capped};
 
-use crate::safety::count_distinct;
-use crate::variables::variables;
 use asp_defs::{Element, Head, NoMemory, Rule};
+use asp_safety::safety::count_distinct;
+use asp_safety::variables::variables;
 use asp_walk::{Atoms, Terms};
 use std::alloc::Global;
 

@@ -21,7 +21,7 @@ use Rattle.asp_atoms.proofs.Ascending.{never_back}
 use Rattle.asp_atoms.proofs.Positions.{Stands, stands, ascends_at, place_of, place_below}
 use Rattle.asp_atoms.proofs.Tupling.{applied, tuples, tuple_from, tuple_wider, atoms_ascend}
 use Rattle.asp_atoms.proofs.Levels.{get_number, length_numbers}
-use Rattle.asp_ground.proofs.Parts.{make_predicate}
+use Rattle.asp_template.proofs.Parts.{make_predicate}
 use Rattle.asp_atoms.proofs.Assembling.{universe_ascends, universe_grows, predicates_ascend, predicates_grow, numbers_below}
 
 -- ---- the atoms of a base

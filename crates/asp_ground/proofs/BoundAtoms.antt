@@ -25,10 +25,10 @@ use Rattle.asp_defs.proofs.Lists.{both, all_at, append_at, append_left, append_r
 use Rattle.asp_defs.proofs.TextRefutations.{clash}
 use Rattle.asp_check.specs.Condition.{is_single_atom, is_single_literal, is_single_element, is_single_head, has_intervals_in_facts}
 use Rattle.asp_walk.proofs.Lists.{flat_at, flat_from}
-use Rattle.asp_ground.proofs.Parts.{make_rule}
-use Rattle.asp_ground.proofs.Products.{with_first}
-use Rattle.asp_ground.proofs.Occurrences.{occurs, few_among}
-use Rattle.asp_ground.proofs.RuleInstances.{written_by, literal_self, bound_written}
+use Rattle.asp_template.proofs.Parts.{make_rule}
+use Rattle.asp_template.proofs.Products.{with_first}
+use Rattle.asp_template.proofs.Occurrences.{occurs, few_among}
+use Rattle.asp_template.proofs.RuleInstances.{written_by, literal_self, bound_written}
 use Rattle.asp_ground.proofs.BaseAtoms.{base_numbers, within_from}
 use Rattle.asp_ground.proofs.SchemaAtoms.{Part, KnownAtom, known_atom, body_known, KnownSchema, under_within}
 use Rattle.asp_ground.proofs.RuleSchemas.{Written, disjunctive_known}

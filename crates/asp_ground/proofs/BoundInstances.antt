@@ -26,18 +26,19 @@ use Rattle.asp_walk.proofs.Lists.{flat_from}
 use Rattle.asp_atoms.specs.declared.vocabularies.Vocabulary.{Vocabulary}
 use Rattle.asp_atoms.specs.Vocabularies.{unnumbered}
 use Rattle.asp_atoms.proofs.Choosing.{flat_map_agrees}
-use Rattle.asp_ground.specs.declared.template.ElementTemplate.{ElementTemplate}
-use Rattle.asp_ground.specs.declared.template.BoundTemplate.{BoundTemplate}
-use Rattle.asp_ground.specs.Ranks.{capped}
-use Rattle.asp_ground.specs.Templates.{number_at, is_true}
-use Rattle.asp_ground.specs.Compiled.{comparisons_of, atom_template, compiled}
-use Rattle.asp_ground.specs.BoundTemplates.{term_at, terms_at, bound_at, bounds_over, found_variables, element_template, choice_bounds, head_bounds_by, compiled_bounds}
-use Rattle.asp_ground.proofs.Parts.{make_rule}
-use Rattle.asp_ground.proofs.Products.{flat_map_map, product_map, replicate_map, in_replicate, tuple_length, tuple_member}
-use Rattle.asp_ground.proofs.Known.{Numbers, KnownAtom, KnownLiteral, KnownSchema}
-use Rattle.asp_ground.proofs.Numbers.{const_at, atom_is}
-use Rattle.asp_ground.proofs.Schemas.{Fits, comparisons_are, atoms_are, known_pos, known_neg}
-use Rattle.asp_ground.proofs.RuleInstances.{known_atom, KnownBody, known_body, KnownParts, disjunctive_known, parts_of, Ranked, KnownRule, bound_written, body_found, bound_found}
+use Rattle.asp_ground.specs.declared.bound_template.ElementTemplate.{ElementTemplate}
+use Rattle.asp_ground.specs.declared.bound_template.BoundTemplate.{BoundTemplate}
+use Rattle.asp_template.specs.Ranks.{capped}
+use Rattle.asp_template.specs.Templates.{number_at, is_true}
+use Rattle.asp_template.specs.Compiled.{comparisons_of, atom_template, compiled}
+use Rattle.asp_template.specs.Variables.{found_variables}
+use Rattle.asp_ground.specs.BoundTemplates.{term_at, terms_at, bound_at, bounds_over, element_template, choice_bounds, head_bounds_by, compiled_bounds}
+use Rattle.asp_template.proofs.Parts.{make_rule}
+use Rattle.asp_template.proofs.Products.{flat_map_map, product_map, replicate_map, in_replicate, tuple_length, tuple_member}
+use Rattle.asp_template.proofs.Known.{Numbers, KnownAtom, KnownLiteral, KnownSchema}
+use Rattle.asp_template.proofs.Numbers.{const_at, atom_is}
+use Rattle.asp_template.proofs.Schemas.{Fits, comparisons_are, atoms_are, known_pos, known_neg}
+use Rattle.asp_template.proofs.RuleInstances.{known_atom, KnownBody, known_body, KnownParts, disjunctive_known, parts_of, Ranked, KnownRule, bound_written, body_found, bound_found}
 use Rattle.asp_ground.proofs.BoundAtoms.{fewer_variables}
 
 -- ---- what is known of an element

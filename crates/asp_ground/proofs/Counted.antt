@@ -36,14 +36,14 @@ use Rattle.asp_atoms.proofs.Ascending.{in_with, with_new, with_old, ascends_with
 use Rattle.asp_atoms.proofs.Counting.{levels_long}
 use Rattle.asp_atoms.proofs.Gathering.{few_constants}
 use Rattle.asp_atoms.proofs.Integers.{length_integers}
-use Rattle.asp_ground.proofs.Parts.{make_rule, with_args, suc_is_not, more_is_not}
-use Rattle.asp_ground.specs.Variables.{disjunctive_variables, element_variables}
+use Rattle.asp_template.proofs.Parts.{make_rule, with_args, suc_is_not, more_is_not}
+use Rattle.asp_template.specs.Variables.{disjunctive_variables, element_variables}
 use Rattle.asp_ground.specs.Counts.{with_constant, choice_count, fact_count, head_count, rule_count, level_count, counted_from}
 use Rattle.asp_ground.proofs.Gathered.{roomed}
 use Rattle.asp_ground.proofs.Members.{few_ascending}
-use Rattle.asp_ground.proofs.Products.{with_first, tuple_member}
-use Rattle.asp_ground.proofs.FactInstances.{KnownArgument, KnownConstant, KnownFact, choice_known}
-use Rattle.asp_ground.proofs.RuleInstances.{KnownRule, disjunctive_found, element_found, body_found, known_fact}
+use Rattle.asp_template.proofs.Products.{with_first, tuple_member}
+use Rattle.asp_template.proofs.FactInstances.{KnownArgument, KnownConstant, KnownFact, choice_known}
+use Rattle.asp_template.proofs.RuleInstances.{KnownRule, disjunctive_found, element_found, body_found, known_fact}
 use Rattle.asp_ground.proofs.Levels.{constant_known, rule_known, universe_at, placed}
 
 -- ---- constants from the front

@@ -40,16 +40,17 @@ use Rattle.asp_atoms.proofs.Choosing.{unnumbered_all}
 use Rattle.asp_atoms.proofs.Counting.{levels_long, not_large, no_one, unmapped, within_limit, first_none, second_none, limit_kept, max_member, short_predicates}
 use Rattle.asp_atoms.proofs.Gathering.{few_constants, few_atoms}
 use Rattle.asp_atoms.proofs.Levels.{get_number, length_numbers}
-use Rattle.asp_ground.specs.Ranks.{IsOrdered}
+use Rattle.asp_template.specs.Ranks.{IsOrdered}
 use Rattle.asp_ground.specs.Faults.{IsGameRefusal, IsInstanceFault}
-use Rattle.asp_ground.specs.Compiled.{compiled_instances, level_instances, compiled_levels}
+use Rattle.asp_template.specs.Compiled.{compiled_instances}
+use Rattle.asp_ground.specs.Levels.{level_instances, compiled_levels}
 use Rattle.asp_ground.proofs.Members.{in_take}
 use Rattle.asp_atoms.proofs.Choosing.{flat_map_agrees}
 use Rattle.asp_atoms.proofs.Numbering.{map_agrees, map_map}
-use Rattle.asp_ground.proofs.Known.{Numbers}
-use Rattle.asp_ground.proofs.Numbers.{const_at, Stands, stands}
+use Rattle.asp_template.proofs.Known.{Numbers}
+use Rattle.asp_template.proofs.Numbers.{const_at, Stands, stands}
 use Rattle.asp_ground.specs.BoundTemplates.{compiled_bounds, level_bounds_by, compiled_level_bounds}
-use Rattle.asp_ground.proofs.RuleInstances.{KnownParts, KnownRule, Ranked, plain_is, rule_is}
+use Rattle.asp_template.proofs.RuleInstances.{KnownParts, KnownRule, Ranked, plain_is, rule_is}
 use Rattle.asp_ground.proofs.ConsistencyRules.{no_constant, constrains, body_single, Comes, comes, few_variables as few_variables_of}
 use Rattle.asp_ground.proofs.BoundInstances.{bounds_are}
 

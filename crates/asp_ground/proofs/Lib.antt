@@ -1,18 +1,6 @@
-pub mod Parts
 pub mod Members
-pub mod Digits
-pub mod Products
-pub mod Steps
-pub mod Integers
 pub mod Rows
-pub mod Templates
 pub mod Gathered
-pub mod Occurrences
-pub mod Known
-pub mod Numbers
-pub mod Schemas
-pub mod FactInstances
-pub mod RuleInstances
 pub mod Levels
 pub mod Signed
 pub mod Counted
@@ -25,4 +13,5 @@ pub mod Walking
 pub mod SchemaAtoms
 pub mod RuleSchemas
 pub mod LevelRules
+pub mod ConsistentMoves
 pub mod Valid

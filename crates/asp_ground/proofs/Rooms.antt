@@ -11,17 +11,17 @@ use Rattle.asp_defs.specs.declared.syntax.Element.{Element}
 use Rattle.asp_defs.specs.Lists.{numbers_from}
 use Rattle.asp_defs.specs.Bases.{product}
 use Rattle.asp_atoms.specs.Counts.{shown}
-use Rattle.asp_check.specs.declared.variables.Variable.{Variable}
-use Rattle.asp_check.specs.Variables.{term_of}
+use Rattle.asp_safety.specs.declared.variables.Variable.{Variable}
+use Rattle.asp_safety.specs.Variables.{term_of}
 use Rattle.asp_atoms.specs.declared.vocabularies.Vocabulary.{Vocabulary}
-use Rattle.asp_ground.specs.declared.template.AtomTemplate.{AtomTemplate}
-use Rattle.asp_ground.specs.declared.template.Template.{Template}
-use Rattle.asp_ground.specs.declared.template.ElementTemplate.{ElementTemplate}
-use Rattle.asp_ground.specs.declared.template.BoundTemplate.{BoundTemplate}
-use Rattle.asp_ground.specs.Ranks.{capped}
-use Rattle.asp_ground.specs.Variables.{disjunctive_variables}
-use Rattle.asp_ground.specs.Compiled.{atom_template, compiled}
-use Rattle.asp_ground.specs.BoundTemplates.{term_at, terms_at, bounds_over, found_variables, element_template, bound_template, choice_bounds}
+use Rattle.asp_template.specs.declared.template.AtomTemplate.{AtomTemplate}
+use Rattle.asp_template.specs.declared.template.Template.{Template}
+use Rattle.asp_ground.specs.declared.bound_template.ElementTemplate.{ElementTemplate}
+use Rattle.asp_ground.specs.declared.bound_template.BoundTemplate.{BoundTemplate}
+use Rattle.asp_template.specs.Ranks.{capped}
+use Rattle.asp_template.specs.Variables.{disjunctive_variables, found_variables}
+use Rattle.asp_template.specs.Compiled.{atom_template, compiled}
+use Rattle.asp_ground.specs.BoundTemplates.{term_at, terms_at, bounds_over, element_template, bound_template, choice_bounds}
 
 take_front : (xs ys : List ℕ) → take (length xs) (xs ++ ys) ≡ xs
 take_front [] ys = refl

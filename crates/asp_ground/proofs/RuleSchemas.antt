@@ -23,9 +23,9 @@ use Rattle.asp_defs.proofs.Lists.{both, and_true, all_at, all_from, append_at, a
 use Rattle.asp_defs.proofs.TextRefutations.{clash}
 use Rattle.asp_check.specs.Condition.{is_single, is_single_atom, is_single_literal, is_single_element, is_single_head, has_intervals_in_facts}
 use Rattle.asp_walk.proofs.Lists.{flat_at, flat_from}
-use Rattle.asp_ground.proofs.Parts.{make_predicate, make_rule, with_args, disjunctive_written, element_written}
-use Rattle.asp_ground.proofs.Products.{tuple_length, tuple_member}
-use Rattle.asp_ground.proofs.Occurrences.{occurs}
+use Rattle.asp_template.proofs.Parts.{make_predicate, make_rule, with_args, disjunctive_written, element_written}
+use Rattle.asp_template.proofs.Products.{tuple_length, tuple_member}
+use Rattle.asp_template.proofs.Occurrences.{occurs}
 use Rattle.asp_ground.proofs.SchemaAtoms.{Part, KnownAtom, known_atom, body_known, KnownSchema, rule_under}
 
 -- the constants and predicates of a part of a rule are known

@@ -23,9 +23,9 @@ use Rattle.asp_defs.proofs.TextRefutations.{clash}
 use Rattle.asp_check.specs.Condition.{is_single, is_single_atom, is_single_literal}
 use Rattle.asp_walk.proofs.Lists.{flat_at, flat_from, get_is_in}
 use Rattle.asp_defs.proofs.SafetyLaws.{itself as same_self}
-use Rattle.asp_ground.proofs.Parts.{make_predicate}
-use Rattle.asp_ground.proofs.Products.{tuple_length, tuple_member, in_replicate}
-use Rattle.asp_ground.proofs.Occurrences.{any_place}
+use Rattle.asp_template.proofs.Parts.{make_predicate}
+use Rattle.asp_template.proofs.Products.{tuple_length, tuple_member, in_replicate}
+use Rattle.asp_template.proofs.Occurrences.{any_place}
 use Rattle.asp_ground.proofs.BaseAtoms.{base_from, base_numbers, within_from}
 
 -- what is written in a part of a rule is known: its constants, its predicates and its variables

@@ -1,9 +1,8 @@
 -- The ground bounds of a choice with a bound, by templates (of this project). All definitions are transparent.
 use Rattle.std.specs.Prelude.{ℕ, ℤ, ◌-◌, if◌then◌else◌, false, List, [], ◌∷◌, ◌++◌, map, length, replicate, get_or, Option}
-use Rattle.std.specs.List.{flat_map, fold, list_all, enumerate_from}
+use Rattle.std.specs.List.{flat_map, list_all, enumerate_from}
 use Rattle.asp_defs.specs.declared.ground.Counted.{Counted}
 use Rattle.asp_defs.specs.declared.ground.Bound.{Bound}
-use Rattle.asp_defs.specs.declared.syntax.Term.{Term}
 use Rattle.asp_defs.specs.declared.syntax.Literal.{Literal}
 use Rattle.asp_defs.specs.declared.syntax.Element.{Element}
 use Rattle.asp_defs.specs.declared.syntax.Head.{Head}
@@ -12,14 +11,14 @@ use Rattle.asp_defs.specs.declared.syntax.Rule.{Rule}
 use Rattle.asp_defs.specs.declared.syntax.Program.{Program}
 use Rattle.asp_defs.specs.Constants.{level_rules}
 use Rattle.asp_defs.specs.Bases.{product}
-use Rattle.asp_defs.specs.Instances.{atom_variables, literal_variables, has_bound}
+use Rattle.asp_defs.specs.Instances.{has_bound}
 use Rattle.asp_atoms.specs.declared.vocabularies.Vocabulary.{Vocabulary}
-use Rattle.asp_ground.specs.declared.template.ElementTemplate.{ElementTemplate}
-use Rattle.asp_ground.specs.declared.template.BoundTemplate.{BoundTemplate}
-use Rattle.asp_ground.specs.Ranks.{capped}
-use Rattle.asp_ground.specs.Variables.{with_variable, disjunctive_variables}
-use Rattle.asp_ground.specs.Templates.{number_at, is_true}
-use Rattle.asp_ground.specs.Compiled.{atom_template, compiled}
+use Rattle.asp_ground.specs.declared.bound_template.ElementTemplate.{ElementTemplate}
+use Rattle.asp_ground.specs.declared.bound_template.BoundTemplate.{BoundTemplate}
+use Rattle.asp_template.specs.Ranks.{capped}
+use Rattle.asp_template.specs.Variables.{disjunctive_variables, found_variables}
+use Rattle.asp_template.specs.Templates.{number_at, is_true}
+use Rattle.asp_template.specs.Compiled.{atom_template, compiled}
 
 -- the counted term of an element under ranks of the body's variables and its own: none where a comparison is false
 abbrev pub term_at : ℕ → ElementTemplate → List ℕ → List Counted
@@ -52,11 +51,6 @@ bound_at size universe b ranks =
 -- the ground bounds where each of so many variables of the body runs through a universe, the last one fastest
 abbrev pub bounds_over : ℕ → List ℕ → BoundTemplate → ℕ → List Bound
 bounds_over size universe b count = flat_map (bound_at size universe b) (product (replicate count universe))
-
--- the variables of a body and an element, as they are found from the front
-abbrev pub found_variables : List Literal → Element → List Term
-found_variables body e =
-    fold with_variable [] (flat_map literal_variables body ++ (atom_variables e.atom ++ flat_map literal_variables e.cond))
 
 -- the templates of an element and of a bound
 abbrev pub element_template : Vocabulary → List Literal → Element → ElementTemplate

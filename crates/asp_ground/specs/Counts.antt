@@ -15,8 +15,8 @@ use Rattle.asp_defs.specs.Constants.{const_cmp, with_member, interval_length, ru
 use Rattle.asp_defs.specs.Instances.{has_bound}
 use Rattle.asp_defs.specs.Limits.{limit}
 use Rattle.asp_atoms.specs.Ascending.{Ascends}
-use Rattle.asp_ground.specs.Variables.{disjunctive_variables, element_variables}
-use Rattle.asp_ground.specs.Compiled.{is_fact, no_atom}
+use Rattle.asp_template.specs.Variables.{disjunctive_variables, element_variables}
+use Rattle.asp_template.specs.Compiled.{is_fact, no_atom}
 
 -- constants in their order with one more, where there is room: for one more than a program with bases has at most
 abbrev pub with_constant : List Const → Const → List Const

@@ -1,11 +1,7 @@
-pub mod Ranks
-pub mod Domains
-pub mod Templates
-pub mod Compiled
+pub mod Levels
 pub mod BoundTemplates
 pub mod Walks
 pub mod Counts
 pub mod Faults
 pub mod Gaps
-pub mod Variables
 pub mod Laws

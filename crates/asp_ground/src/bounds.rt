@@ -2,21 +2,20 @@
 ghost use Rattle.std.specs.Prelude.{◌≡◌, ◌++◌, ◌≤◌, ◌||◌, is_some, [], map, length, take, drop, replicate, get_or, IfOk, OnOk};
 ghost use Rattle.std.specs.List.{flat_map};
 ghost use Rattle.asp_defs.specs.Bases.{product};
-ghost use Rattle.asp_check.specs.Variables.{term_of};
-ghost use Rattle.asp_ground.specs.Domains.{domains_of};
-ghost use Rattle.asp_ground.specs.Ranks.{IsOrdered};
-ghost use Rattle.asp_ground.specs.Templates.{number_at};
-ghost use Rattle.asp_ground.specs.BoundTemplates.{term_at, terms_at, bound_at, bounds_over, element_template, bound_template, choice_bounds, head_bounds_by, compiled_bounds};
+ghost use Rattle.asp_template.specs.Domains.{domains_of};
+ghost use Rattle.asp_template.specs.Ranks.{IsOrdered};
+ghost use Rattle.asp_template.specs.Templates.{number_at};
+ghost use Rattle.asp_ground.specs.BoundTemplates.{term_at, terms_at, bound_at, bounds_over, element_template, choice_bounds, head_bounds_by, compiled_bounds};
 
-use crate::compile::{atom_template, compile};
-use crate::domains::{Domains, domain_at};
-use crate::instances::{are_true, number_at, numbers_at};
-use crate::ranks::capped;
-use crate::rules::universe_of;
-use crate::template::{BoundTemplate, ElementTemplate};
-use crate::variables::{bound_variables, disjunctive_variables};
+use crate::bound_template::{BoundTemplate, ElementTemplate};
+use crate::level::universe_of;
 use asp_atoms::Vocabulary;
 use asp_defs::{Bound, Counted, Element, Head, List, Literal, NoMemory, Rule};
+use asp_template::compile::{atom_template, compile};
+use asp_template::domains::{Domains, domain_at};
+use asp_template::instances::{are_true, number_at, numbers_at};
+use asp_template::ranks::capped;
+use asp_template::variables::{bound_variables, disjunctive_variables};
 use std::alloc::Global;
 
 /// The counted term of an element under ranks of its variables.

@@ -7,17 +7,17 @@ ghost use Rattle.asp_defs.specs.Sizes.{instance_total};
 ghost use Rattle.asp_atoms.specs.Answers.{base_too_large};
 ghost use Rattle.asp_atoms.specs.Counts.{shown};
 ghost use Rattle.asp_atoms.specs.Vocabularies.{vocabulary_of};
-ghost use Rattle.asp_ground.specs.Variables.{disjunctive_variables as disjunctive_variables_of, element_variables};
+ghost use Rattle.asp_template.specs.Variables.{disjunctive_variables as disjunctive_variables_of, element_variables};
 ghost use Rattle.asp_ground.specs.Counts.{choice_count, fact_count, head_count, rule_count, level_count};
 
 use crate::bounds::has_bound;
 use crate::constants::{Constants, add_rules};
-use crate::rules::universe_of;
-use crate::variables::{disjunctive_variables, element_variables};
+use crate::level::universe_of;
 use asp_atoms::counts::{power, product, sum};
 use asp_atoms::{Vocabulary, interval_length};
 use asp_check::Checked;
 use asp_defs::{Atom, Bases, Element, Head, List, Literal, Rule, Term};
+use asp_template::variables::{disjunctive_variables, element_variables};
 
 /// For how many terms an argument stands.
 fn choice_count(term: &Term) -> u64

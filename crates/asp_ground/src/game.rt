@@ -7,16 +7,16 @@ ghost use Rattle.asp_defs.specs.Limits.{past_limit};
 ghost use Rattle.asp_defs.specs.Sizes.{instance_total, game_too_large};
 ghost use Rattle.asp_atoms.specs.Answers.{base_too_large};
 ghost use Rattle.asp_atoms.specs.Vocabularies.{vocabulary_of};
-ghost use Rattle.asp_ground.specs.Ranks.{IsOrdered};
+ghost use Rattle.asp_template.specs.Ranks.{IsOrdered};
 ghost use Rattle.asp_defs.specs.Consistency.{consistency_constraints};
 ghost use Rattle.asp_ground.specs.BoundTemplates.{compiled_level_bounds};
-ghost use Rattle.asp_ground.specs.Compiled.{compiled_levels};
+ghost use Rattle.asp_ground.specs.Levels.{compiled_levels};
 ghost use Rattle.asp_ground.specs.Faults.{IsInstanceFault, IsGameRefusal};
 
 use crate::bounds::level_bounds;
 use crate::consistency::constraints;
 use crate::counts::instance_count;
-use crate::rules::level_rules;
+use crate::level::level_rules;
 use asp_atoms::{Vocabulary, program_signatures, vocabulary};
 use asp_check::Checked;
 use asp_defs::{

@@ -2,7 +2,7 @@ use Rattle.std.proofs.Common.{◌+◌, ◌∙◌, Some, sym, ap, arith, ℕ}
 use Rattle.std.specs.Option.{option_map}
 use Rattle.asp_defs.specs.declared.faults.Var.{Var}
 use Rattle.asp_defs.specs.Safety.{shown_number}
-use Rattle.asp_check.specs.Variables.{term_of}
+use Rattle.asp_safety.specs.Variables.{term_of}
 use Rattle.asp_check.proofs.Rules.{unsafe_here, unsafe_later}
 use Rattle.asp_check.proofs.checks.unsafe_in.Goals as goal
 

@@ -1,8 +1,8 @@
 use Rattle.std.proofs.Common.{◌≡◌, ◌∙◌, length, ap, arith}
 use Rattle.std.proofs.lemmas.List.{length-map}
 use Rattle.asp_defs.specs.Safety.{rule_variables}
-use Rattle.asp_check.specs.Variables.{term_of, terms_of}
-use Rattle.asp_check.proofs.Occurrences.{occurrences_few}
+use Rattle.asp_safety.specs.Variables.{term_of, terms_of}
+use Rattle.asp_safety.proofs.Occurrences.{occurrences_few}
 use Rattle.asp_check.proofs.counts.rule_variables.Goals as goal
 
 pub returns-then-len-most : goal.returns-then-len-most

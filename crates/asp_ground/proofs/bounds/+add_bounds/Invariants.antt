@@ -1,7 +1,7 @@
 use Rattle.std.proofs.Common.{◌≡◌, ◌+◌, ◌-◌, ◌++◌, [], ◌∷◌, take, drop, length}
 use Rattle.std.specs.List.{flat_map}
 use Rattle.asp_defs.specs.Bases.{product}
-use Rattle.asp_ground.specs.Domains.{domains_of}
+use Rattle.asp_template.specs.Domains.{domains_of}
 use Rattle.asp_ground.specs.BoundTemplates.{bound_at}
 use Rattle.asp_ground.proofs.bounds.+add_bounds.Given as goal
 

@@ -4,10 +4,10 @@ use Rattle.std.specs.List.{flat_map}
 use Rattle.std.proofs.lemmas.List.{take_all, take-take, take-set, take_more_set, drop_more}
 use Rattle.asp_defs.specs.declared.ground.Counted.{Counted}
 use Rattle.asp_defs.specs.Bases.{product}
-use Rattle.asp_ground.specs.declared.template.ElementTemplate.{ElementTemplate}
-use Rattle.asp_ground.specs.Domains.{domains_of}
+use Rattle.asp_ground.specs.declared.bound_template.ElementTemplate.{ElementTemplate}
+use Rattle.asp_template.specs.Domains.{domains_of}
 use Rattle.asp_ground.specs.BoundTemplates.{term_at}
-use Rattle.asp_ground.proofs.Steps.{grows, odometer}
+use Rattle.asp_template.proofs.Steps.{grows, odometer}
 use Rattle.asp_ground.proofs.bounds.+add_terms.Goals as goal
 
 -- the terms behind given ranks

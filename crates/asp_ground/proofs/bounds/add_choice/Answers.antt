@@ -1,8 +1,8 @@
 use Rattle.std.proofs.Common.{◌∙◌, refl, ap, List, ◌++◌, map, length}
 use Rattle.std.proofs.lemmas.Result.{IfOk-equal}
 use Rattle.asp_defs.specs.declared.ground.Bound.{Bound}
-use Rattle.asp_check.specs.Variables.{term_of}
-use Rattle.asp_ground.specs.Ranks.{capped}
+use Rattle.asp_safety.specs.Variables.{term_of}
+use Rattle.asp_template.specs.Ranks.{capped}
 use Rattle.asp_ground.specs.BoundTemplates.{bounds_over, choice_bounds}
 use Rattle.asp_ground.proofs.Rooms.{make_bound, choice_over}
 use Rattle.asp_ground.proofs.bounds.add_choice.Goals as goal

@@ -1,6 +1,6 @@
 use Rattle.std.proofs.Common.{[], arith}
 use Rattle.asp_ground.specs.BoundTemplates.{terms_at}
-use Rattle.asp_ground.proofs.Steps.{grows_item}
+use Rattle.asp_template.proofs.Steps.{grows_item}
 use Rattle.asp_ground.proofs.bounds.all_terms.Goals as goal
 
 pub loop-element-preserved : goal.loop-element-preserved

@@ -1,6 +1,6 @@
 use Rattle.std.proofs.Common.{◌∙◌, ◌-◌, ap, false, map, length}
-use Rattle.asp_check.specs.Variables.{term_of}
-use Rattle.asp_ground.specs.Compiled.{compiled}
+use Rattle.asp_safety.specs.Variables.{term_of}
+use Rattle.asp_template.specs.Compiled.{compiled}
 use Rattle.asp_ground.proofs.Rooms.{element_over}
 use Rattle.asp_ground.proofs.bounds.element_template_of.Goals as goal
 

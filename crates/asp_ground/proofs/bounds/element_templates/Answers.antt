@@ -1,6 +1,6 @@
 use Rattle.std.proofs.Common.{arith}
 use Rattle.asp_ground.specs.BoundTemplates.{element_template}
-use Rattle.asp_ground.proofs.Steps.{maps_item, maps_all}
+use Rattle.asp_template.proofs.Steps.{maps_item, maps_all}
 use Rattle.asp_ground.proofs.bounds.element_templates.Goals as goal
 
 pub loop-element-preserved : goal.loop-element-preserved

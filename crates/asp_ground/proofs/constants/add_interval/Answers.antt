@@ -9,7 +9,7 @@ use Rattle.asp_atoms.specs.declared.const_refs.ConstRef.{ConstRef}
 use Rattle.asp_atoms.specs.ConstRefs.{const_of}
 use Rattle.asp_ground.specs.Gaps.{HasAll}
 use Rattle.asp_ground.specs.Counts.{Gathers}
-use Rattle.asp_ground.proofs.Integers.{passed, told_both}
+use Rattle.asp_template.proofs.Integers.{passed, told_both}
 use Rattle.asp_ground.proofs.Gathered.{gathers_integer, all_there}
 use Rattle.asp_ground.proofs.constants.add_interval.Goals as goal
 

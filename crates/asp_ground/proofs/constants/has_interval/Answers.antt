@@ -2,7 +2,7 @@ use Rattle.std.proofs.Common.{ℤ, ◌≡◌, ◌+◌, ◌-◌, ◌∙◌, sym, 
 use Rattle.asp_defs.specs.Constants.{interval_length}
 use Rattle.asp_atoms.specs.ConstRefs.{const_of}
 use Rattle.asp_ground.specs.Gaps.{IsIntegerAt}
-use Rattle.asp_ground.proofs.Integers.{told, told_both}
+use Rattle.asp_template.proofs.Integers.{told, told_both}
 use Rattle.asp_ground.proofs.Rows.{interval_there, nothing_there}
 use Rattle.asp_ground.proofs.constants.has_interval.Goals as goal
 

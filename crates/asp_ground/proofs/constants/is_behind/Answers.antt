@@ -5,7 +5,7 @@ use Rattle.asp_defs.specs.declared.ground.Const.TheVariants as const
 use Rattle.asp_atoms.specs.ConstRefs.{const_of}
 use Rattle.asp_ground.specs.Gaps.{IsIntegerAt}
 use Rattle.asp_ground.proofs.Gathered.{read_at}
-use Rattle.asp_ground.proofs.Integers.{told}
+use Rattle.asp_template.proofs.Integers.{told}
 use Rattle.asp_ground.proofs.constants.is_behind.Goals as goal
 
 pub returns : goal.returns

@@ -1,7 +1,7 @@
 use Rattle.std.proofs.Common.{◌∙◌, ◌^◌, sym, ◌||◌, [], length}
 use Rattle.std.specs.Prelude.{is_some}
 use Rattle.std.specs.List.{sum_by}
-use Rattle.asp_ground.specs.Variables.{disjunctive_variables, element_variables}
+use Rattle.asp_template.specs.Variables.{disjunctive_variables, element_variables}
 use Rattle.asp_ground.proofs.Rooms.{unbounded_count, bounded_count}
 use Rattle.asp_ground.proofs.counts.choice_rule_count.Goals as goal
 

@@ -1,6 +1,6 @@
 use Rattle.std.proofs.Common.{◌≡◌, ◌^◌, length, take}
 use Rattle.std.specs.List.{sum_by}
-use Rattle.asp_ground.specs.Variables.{element_variables}
+use Rattle.asp_template.specs.Variables.{element_variables}
 use Rattle.asp_atoms.specs.Counts.{shown}
 use Rattle.asp_ground.proofs.counts.elements_count.Given as goal
 

@@ -9,7 +9,7 @@ use Rattle.asp_atoms.specs.Counts.{shown}
 use Rattle.asp_atoms.specs.Vocabularies.{vocabulary_of}
 use Rattle.asp_ground.specs.Counts.{level_count}
 use Rattle.asp_ground.proofs.Counted.{total_by_universes}
-use Rattle.asp_ground.proofs.Steps.{pair, enumerated_more, enumerated_last, shown_more}
+use Rattle.asp_template.proofs.Steps.{pair, enumerated_more, enumerated_last, shown_more}
 use Rattle.asp_ground.proofs.counts.instance_count.Goals as goal
 
 abbrev rules_of : List Part → List (List Rule)

@@ -11,8 +11,8 @@ use Rattle.asp_defs.specs.Bases.{Predicate, predicates, last_level, bases_of}
 use Rattle.asp_defs.specs.Games.{game_of}
 use Rattle.asp_atoms.specs.declared.vocabularies.Vocabulary.{Vocabulary}
 use Rattle.asp_atoms.specs.Vocabularies.{vocabulary_of}
-use Rattle.asp_ground.specs.Ranks.{IsOrdered}
-use Rattle.asp_ground.specs.Compiled.{compiled_levels}
+use Rattle.asp_template.specs.Ranks.{IsOrdered}
+use Rattle.asp_ground.specs.Levels.{compiled_levels}
 use Rattle.asp_ground.specs.BoundTemplates.{compiled_level_bounds}
 use Rattle.asp_atoms.proofs.Counting.{short_predicates}
 use Rattle.asp_ground.proofs.Levels.{vocabulary_is_ordered, levels_are, level_bounds_are, few_in_bases}

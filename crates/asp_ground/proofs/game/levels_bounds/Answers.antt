@@ -3,7 +3,7 @@ use Rattle.std.specs.List.{enumerate_from}
 use Rattle.asp_defs.specs.declared.syntax.Part.{Part}
 use Rattle.asp_defs.specs.declared.syntax.Rule.{Rule}
 use Rattle.asp_ground.specs.BoundTemplates.{level_bounds_by}
-use Rattle.asp_ground.proofs.Steps.{pair, enumerated_more, enumerated_last, mapped_more}
+use Rattle.asp_template.proofs.Steps.{pair, enumerated_more, enumerated_last, mapped_more}
 use Rattle.asp_ground.proofs.game.levels_bounds.Goals as goal
 
 abbrev rules_of : List Part → List (List Rule)

@@ -4,9 +4,10 @@ use Rattle.asp_defs.specs.declared.ground.GroundRule.{GroundRule}
 use Rattle.asp_atoms.specs.declared.vocabularies.Vocabulary.{Vocabulary}
 use Rattle.asp_defs.specs.declared.syntax.Part.{Part}
 use Rattle.asp_defs.specs.declared.syntax.Rule.{Rule}
-use Rattle.asp_ground.specs.Compiled.{compiled_instances, level_instances}
+use Rattle.asp_template.specs.Compiled.{compiled_instances}
+use Rattle.asp_ground.specs.Levels.{level_instances}
 use Rattle.asp_ground.proofs.Signed.{constraints_long, read_constraints}
-use Rattle.asp_ground.proofs.Steps.{pair, enumerated_more, enumerated_last, mapped_more}
+use Rattle.asp_template.proofs.Steps.{pair, enumerated_more, enumerated_last, mapped_more}
 use Rattle.asp_ground.proofs.game.levels_rules.Goals as goal
 
 abbrev rules_of : List Part → List (List Rule)

@@ -1,7 +1,7 @@
 use Rattle.std.proofs.Common.{◌≡◌, map, take}
 use Rattle.std.specs.List.{enumerate_from}
 use Rattle.asp_defs.specs.declared.syntax.Part.{Part}
-use Rattle.asp_ground.specs.Compiled.{level_instances}
+use Rattle.asp_ground.specs.Levels.{level_instances}
 use Rattle.asp_ground.proofs.game.levels_rules.Given as goal
 
 abbrev pub invariant-loop-place : goal.invariant-loop-place

@@ -1,6 +1,6 @@
 use Rattle.std.proofs.Common.{refl, arith}
 use Rattle.asp_defs.specs.declared.syntax.Part.{Part}
-use Rattle.asp_ground.proofs.Steps.{maps_item, maps_all}
+use Rattle.asp_template.proofs.Steps.{maps_item, maps_all}
 use Rattle.asp_ground.proofs.game.quants.Goals as goal
 
 pub loop-level-preserved : goal.loop-level-preserved

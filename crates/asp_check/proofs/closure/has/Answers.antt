@@ -1,6 +1,0 @@
-use Rattle.std.proofs.Common.{◌∙◌}
-use Rattle.asp_check.proofs.Sets.{contains_is}
-use Rattle.asp_check.proofs.closure.has.Goals as goal
-
-pub returns : goal.returns
-returns c = c.contains.ensures ∙ contains_is c.args.set.now.keys c.args.variable

@@ -1,8 +1,0 @@
-use Rattle.std.proofs.Common.{◌≡◌, map, take}
-use Rattle.asp_check.specs.Variables.{term_of}
-use Rattle.asp_ground.specs.Compiled.{slot_of}
-use Rattle.asp_ground.proofs.compile.slots_of.Given as goal
-
-abbrev pub invariant-loop-term : goal.invariant-loop-term
-invariant-loop-term l =
-    l.slots.items ≡ map (slot_of l.constants (map term_of l.variables)) (take l.term-index l.terms)

@@ -1,7 +1,0 @@
-use Rattle.std.proofs.Common.{◌≡◌, map}
-use Rattle.asp_defs.specs.Lists.{numbers_from}
-use Rattle.asp_ground.specs.declared.template.Slot.TheVariants.{Variable}
-use Rattle.asp_ground.proofs.facts.variables.Given as goal
-
-abbrev pub invariant-loop-place : goal.invariant-loop-place
-invariant-loop-place l = l.slots.items ≡ map Variable (numbers_from 0 l.place)

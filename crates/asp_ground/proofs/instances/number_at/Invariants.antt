@@ -1,7 +1,0 @@
-use Rattle.std.proofs.Common.{◌≡◌, take}
-use Rattle.std.specs.List.{fold}
-use Rattle.asp_ground.specs.Templates.{with_digit}
-use Rattle.asp_ground.proofs.instances.number_at.Given as goal
-
-abbrev pub invariant-loop-slot : goal.invariant-loop-slot
-invariant-loop-slot l = l.number ≡ fold (with_digit l.size l.ranks) 0 (take l.slot-index l.slots)

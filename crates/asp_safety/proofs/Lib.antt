@@ -1,0 +1,10 @@
+pub mod Members
+pub mod Occurrences
+pub mod Sets
+pub mod Spreading
+pub mod Steps
+pub mod Places
+pub mod Representing
+pub mod Safe
+pub mod Beside
+pub mod Unsafe

@@ -1,0 +1,12 @@
+pub mod Parts
+pub mod Digits
+pub mod Products
+pub mod Steps
+pub mod Integers
+pub mod Templates
+pub mod Occurrences
+pub mod Known
+pub mod Numbers
+pub mod Schemas
+pub mod FactInstances
+pub mod RuleInstances

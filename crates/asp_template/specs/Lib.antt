@@ -1,0 +1,5 @@
+pub mod Ranks
+pub mod Domains
+pub mod Templates
+pub mod Compiled
+pub mod Variables
