@@ -133,7 +133,7 @@ fn meets(bound: &MaskedBound, set: u32) -> bool
 }
 
 /// Whether the set meets all the bounds.
-fn meets_all(bounds: &[MaskedBound], set: u32) -> bool
+pub fn meets_all(bounds: &[MaskedBound], set: u32) -> bool
     ensures { result ≡ are_met bounds.now set }
 {
     bounds.iter().all(|bound| meets(bound, set))
