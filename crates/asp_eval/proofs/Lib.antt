@@ -1,0 +1,5 @@
+pub mod Marking
+pub mod Choosing
+pub mod Searching
+pub mod Deciding
+pub mod Literals

@@ -1,0 +1,5 @@
+pub mod Covers
+pub mod Broken
+pub mod Taken
+pub mod Covering
+pub mod Decided
