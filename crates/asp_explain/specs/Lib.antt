@@ -1,0 +1,4 @@
+pub mod Achieving
+pub mod Cubes
+pub mod Founding
+pub mod Resting
