@@ -1,7 +1,7 @@
 -- Steps of the loops that read and write.
 use Rattle.std.proofs.Common.{◌≡◌, ℕ, ◌+◌, ◌-◌, ◌≤◌, List, [], ◌++◌, length, take, drop, refl, sym, ◌∙◌, ap, arith, Result, Ok, Err, OnErr, subst, append_assoc, length-append, take-append-drop}
-use Rattle.std.proofs.KnownBytes.{Consumes-trans, Appends-nil, Appends-trans, Appends-kept}
-use Rattle.std.proofs.lemmas.List.{append-nil, take_at, take_rest, drop-drop, length-take-le, length-drop}
+use Rattle.std.proofs.KnownBytes.{Consumes-trans, Appends-trans, Appends-kept}
+use Rattle.std.proofs.lemmas.List.{take_at, take_rest, drop-drop, length-take-le, length-drop}
 use Rattle.std.specs.declared.option.Option.{Option}
 use Rattle.std.specs.Io.KnownBytes.{Appends, Consumes, Keeps}
 use Rattle.asp_io.specs.Moved.{AppendsPrefix, LosesFront}

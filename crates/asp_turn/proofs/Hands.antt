@@ -2,10 +2,9 @@
 use Rattle.std.proofs.Common.{◌≡◌, ℕ, ◌≤◌, length, List, [], ◌∷◌, Option, Some, None, IsSomeAnd, refl, ap, sym, subst, ◌∙◌}
 use Rattle.atomic_table.specs.Table.{Me, rest}
 use Rattle.asp_turn.specs.declared.view.View.{View}
-use mathlib.Core.List.{IsPrefix}
 use Rattle.asp_turn.specs.Rule.{in_hand}
 use Rattle.asp_turn.specs.Steps.{longer, shorter, informed}
-use Rattle.asp_turn.proofs.Prefixes.{shorter_is, both_begin}
+use Rattle.asp_turn.proofs.Prefixes.{shorter_is}
 
 module _ {A : Type 0} where
   pub headed : (l m : List (ℕ × A)) (x : A) → l ≡ (0, x) ∷ m → (y : A) × (l ≡ (0, y) ∷ rest l)
