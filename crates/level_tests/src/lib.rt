@@ -2,7 +2,7 @@
 //!
 //! | module | tests |
 //! |---|---|
-//! | `texts` | the rules of a text, for the next |
+//! | `texts` | the rules of a text, and how a row that fails is named, for the next |
 //! | `minimality` | answer sets and nogoods of `asp_minimal`, on texts |
 //! | `programs` | the same on random programs, against the definitions over bits |
 //! | `loops` | how many nogoods rule out independent loops |

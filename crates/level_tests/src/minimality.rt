@@ -12,12 +12,13 @@ ghost use Rattle.asp_reduct.specs.Bounds.{are_below, is_rule_below};
 ghost use Rattle.asp_minimal.specs.Choices.{bound_atoms};
 ghost use Rattle.asp_minimal.specs.Numbers.{written};
 
-use crate::texts::{first_rules, game_of};
+use crate::texts::{expect_number, first_rules};
 use asp_bits::Bits;
 use asp_defs::{Give, GroundRule, Kind, List, Lit, NoMemory, Unknown};
 use asp_minimal::{Minimality, minimal, nogood, nogood_of_atom};
 use asp_reduct::satisfies;
 use asp_search::Search;
+use bases_tests::texts::game;
 use std::alloc::Global;
 use std::test::Fail;
 
@@ -166,6 +167,26 @@ fn answer_of(minimality: Result<Minimality, Give>, budget: u64) -> Result<Answer
     }
 }
 
+/// What `minimal` answers of an interpretation.
+fn ask_of(
+    alloc: Global,
+    rules: &[GroundRule],
+    free: &[u32],
+    set: &Bits,
+    budget: u64,
+) -> Result<Answer, NoMemory> {
+    let count = bound_count(alloc, set, free)?;
+    if !are_all_in(rules, set.len()) {
+        return Ok(Answer::NoModel);
+    }
+    if !is_model(rules, set) || count > 8 {
+        return Ok(Answer::NoModel);
+    }
+    let mut search = Search::new(alloc, count, budget)?;
+    let answer = minimal(alloc, rules, free, set, 1, &mut search);
+    answer_of(answer, budget)
+}
+
 /// What `minimal` answers of a set with these free atoms.
 pub fn ask(
     alloc: Global,
@@ -176,16 +197,7 @@ pub fn ask(
 ) -> Result<Answer, NoMemory> {
     let set = interpretation(alloc, 8, set)?;
     let free = atoms_of(alloc, free)?;
-    let count = bound_count(alloc, &set, free.as_slice())?;
-    if !are_all_in(rules, set.len()) {
-        return Ok(Answer::NoModel);
-    }
-    if !is_model(rules, &set) || count > 8 {
-        return Ok(Answer::NoModel);
-    }
-    let mut search = Search::new(alloc, count, budget)?;
-    let answer = minimal(alloc, rules, free.as_slice(), &set, 1, &mut search);
-    answer_of(answer, budget)
+    ask_of(alloc, rules, free.as_slice(), &set, budget)
 }
 
 /// The literals of a clause: bit `2 * atom + 1` stands for the atom, bit `2 * atom` for its negation.
@@ -236,6 +248,46 @@ fn nogood_of(
     nogood_of_atom(alloc, rules, set, atoms, atom, &outer)
 }
 
+/// The literals of that nogood.
+fn nogood_literals(
+    alloc: Global,
+    rules: &[GroundRule],
+    set: &Bits,
+    atoms: &List<u32>,
+    outer: Option<u32>,
+) -> Result<Option<u32>, NoMemory>
+    requires below { IsTrue (list_all (is_rule_below (length set.now)) rules.now) }
+    requires some { is_empty atoms.now ≡ false }
+    requires inside { within atoms.now (true_places set.now) ≡ true }
+    requires unfounded { is_unfounded rules.now (true_places set.now) atoms.now ≡ true }
+{
+    let clause = nogood_of(alloc, rules, set, atoms, outer)?;
+    Ok(Some(literals_of(clause.as_slice())))
+}
+
+/// The nogood of the set that `minimal` finds in an interpretation, or none where it finds none.
+fn ask_nogood_of(
+    alloc: Global,
+    rules: &[GroundRule],
+    free: &[u32],
+    set: &Bits,
+    outer: Option<u32>,
+) -> Result<Option<u32>, NoMemory> {
+    let count = bound_count(alloc, set, free)?;
+    if !are_all_in(rules, set.len()) {
+        return Ok(None);
+    }
+    if !is_model(rules, set) || count > 8 {
+        return Ok(None);
+    }
+    let mut search = Search::new(alloc, count, 6561)?;
+    match minimal(alloc, rules, free, set, 1, &mut search) {
+        Ok(Minimality::No(atoms)) => nogood_literals(alloc, rules, set, &atoms, outer),
+        Err(Give::NoMemory) => Err(NoMemory),
+        Ok(Minimality::Yes) | Err(Give::Spent(_)) => Ok(None),
+    }
+}
+
 /// The nogood of the set that `minimal` finds, or none where it finds none.
 pub fn ask_nogood(
     alloc: Global,
@@ -246,22 +298,7 @@ pub fn ask_nogood(
 ) -> Result<Option<u32>, NoMemory> {
     let set = interpretation(alloc, 8, set)?;
     let free = atoms_of(alloc, free)?;
-    let count = bound_count(alloc, &set, free.as_slice())?;
-    if !are_all_in(rules, set.len()) {
-        return Ok(None);
-    }
-    if !is_model(rules, &set) || count > 8 {
-        return Ok(None);
-    }
-    let mut search = Search::new(alloc, count, 6561)?;
-    match minimal(alloc, rules, free.as_slice(), &set, 1, &mut search) {
-        Ok(Minimality::No(atoms)) => {
-            let clause = nogood_of(alloc, rules, &set, &atoms, outer)?;
-            Ok(Some(literals_of(clause.as_slice())))
-        }
-        Err(Give::NoMemory) => Err(NoMemory),
-        Ok(Minimality::Yes) | Err(Give::Spent(_)) => Ok(None),
-    }
+    ask_nogood_of(alloc, rules, free.as_slice(), &set, outer)
 }
 
 /// Each of the two atoms alone is supported by the other.
@@ -275,8 +312,10 @@ const CHOICES: &str = "%@exists {a}. {b} :- a. {c} :- a.";
 
 const NEGATION: &str = "%@exists a :- not b. b :- not a. :- c.";
 
-// A text, the free atoms, the set, the budget and the answer.
-const ANSWERS: [(&str, u32, u32, u64, Answer); 28] = [
+/// A text, the free atoms, the set, the budget and the answer.
+type Asked = (&'static str, u32, u32, u64, Answer);
+
+const ANSWERS: [Asked; 28] = [
     (LOOP, 0, A | B, 9, Answer::No(A | B)),
     (LOOP, 0, 0, 9, Answer::Yes),
     (LOOP, A, A | B, 9, Answer::Yes),
@@ -333,22 +372,37 @@ const ANSWERS: [(&str, u32, u32, u64, Answer); 28] = [
     ("%@exists a :- a. b.", 0, A | B, 0, Answer::No(A)),
 ];
 
-#[test]
-fn tells_answer_sets(rt: HostRuntime) -> Result<(), Fail> {
-    for (text, free, set, budget, answer) in ANSWERS {
-        let game = game_of(rt.alloc(), text)?;
-        let found = ask(rt.alloc(), first_rules(&game), free, set, budget)?;
-        assert!(rt;
-            found == answer,
-            "{text} free {free} set {set} budget {budget}"
-        );
+/// Whether the set of a row has its answer.
+fn is_answered(alloc: Global, row: &Asked) -> bool {
+    let (text, free, set, budget, answer) = *row;
+    let Some(game) = game(alloc, text) else {
+        return false;
+    };
+    match ask(alloc, first_rules(&game), free, set, budget) {
+        Ok(found) => found == answer,
+        Err(_) => false,
+    }
+}
+
+fn ask_rows(alloc: Global, rows: &[Asked]) -> Result<(), Fail> {
+    let mut number = 0u32;
+    for row in rows {
+        number = number.saturating_add(1);
+        expect_number(is_answered(alloc, row), row.0, number)?;
     }
     Ok(())
 }
 
-// A text, the free atoms, the set, the outer atoms for the nogood that denies the first atom of the unfounded set, none for the
-// one that denies them all, and the literals of the nogood: the denials, and one for each rule that could support the set.
-const NOGOODS: [(&str, u32, u32, Option<u32>, Option<u32>); 13] = [
+#[test]
+fn tells_answer_sets(rt: HostRuntime) -> Result<(), Fail> {
+    ask_rows(rt.alloc(), &ANSWERS)
+}
+
+/// A text, the free atoms, the set, the outer atoms for the nogood that denies the first atom of the unfounded set, none for the
+/// one that denies them all, and the literals of the nogood: the denials, and one for each rule that could support the set.
+type Denied = (&'static str, u32, u32, Option<u32>, Option<u32>);
+
+const NOGOODS: [Denied; 13] = [
     // not a, not b
     (LOOP, 0, A | B, None, Some(0b0101)),
     // c is false: c too.
@@ -406,15 +460,28 @@ const OUTER_FALSE: &str = "%@exists a :- b. b :- a. a :- c, d.";
 
 const OUTER_TRUE: &str = "%@exists a :- b. b :- a. a :- c, not d. d.";
 
-#[test]
-fn makes_nogoods(rt: HostRuntime) -> Result<(), Fail> {
-    for (text, free, set, outer, nogood) in NOGOODS {
-        let game = game_of(rt.alloc(), text)?;
-        assert_eq!(rt;
-            ask_nogood(rt.alloc(), first_rules(&game), free, set, outer)?,
-            nogood,
-            "{text} free {free} set {set} outer {outer:?}"
-        );
+/// Whether the set of a row has its nogood.
+fn is_denied(alloc: Global, row: &Denied) -> bool {
+    let (text, free, set, outer, nogood) = *row;
+    let Some(game) = game(alloc, text) else {
+        return false;
+    };
+    match ask_nogood(alloc, first_rules(&game), free, set, outer) {
+        Ok(found) => found == nogood,
+        Err(_) => false,
+    }
+}
+
+fn deny_rows(alloc: Global, rows: &[Denied]) -> Result<(), Fail> {
+    let mut number = 0u32;
+    for row in rows {
+        number = number.saturating_add(1);
+        expect_number(is_denied(alloc, row), row.0, number)?;
     }
     Ok(())
+}
+
+#[test]
+fn makes_nogoods(rt: HostRuntime) -> Result<(), Fail> {
+    deny_rows(rt.alloc(), &NOGOODS)
 }

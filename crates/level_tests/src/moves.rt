@@ -5,12 +5,13 @@ ghost use Rattle.asp_defs.specs.declared.ground.Lit.{Lit};
 ghost use Rattle.asp_defs.specs.Entries.{lit_true, cube_holds};
 ghost use Rattle.asp_game.specs.State.{Unasked};
 ghost use Rattle.asp_game.specs.Answers.{IsCore};
-ghost use Rattle.asp_game.specs.Questions.{is_open};
+ghost use Rattle.asp_game.specs.Questions.{is_open, is_region};
 ghost use Rattle.level_tests.specs.Example.{one_choice, set_of, last_of};
 
 use asp_bits::Bits;
 use asp_defs::{Give, List, Lit, NoMemory};
 use asp_game::{Gate, Moves, NoGate, Point, Step};
+use bases_tests::rows::expect;
 use std::alloc::Global;
 use std::cell::Cell;
 use std::test::Fail;
@@ -159,26 +160,37 @@ fn one_choice(alloc: Global) -> OneChoice {
     }
 }
 
+/// Whether the next move is the one with this value, and no core is needed behind it.
+fn is_first<M: Moves>(alloc: Global, moves: &mut M, value: bool) -> Result<bool, Give>
+    requires { (M.state moves.old).last ≢ Unasked }
+{
+    let first = match moves.next(alloc)? {
+        Step::Found(set) => set.len() > 0 && set.get(0) == value,
+        Step::Core(_) => false,
+    };
+    let core = exhaust(alloc, moves)?;
+    Ok(first && core.is_empty())
+}
+
+/// Whether it is in this region.
+fn is_first_in(alloc: Global, region: &[Lit], value: bool) -> Result<bool, Give>
+    requires { IsTrue (is_region one_choice 1 region.now) }
+{
+    let mut moves = one_choice(alloc);
+    let outer = Bits::new(alloc, 1)?;
+    moves.begin(alloc, &outer, region, false)?;
+    is_first(alloc, &mut moves, value)
+}
+
 #[test]
 fn a_small_implementation_meets_the_trait(rt: HostRuntime) -> Result<(), Fail> {
     let alloc = rt.alloc();
-    let mut moves = one_choice(alloc);
-    let outer = Bits::new(alloc, 1)?;
     let with_atom = [Lit {
         atom: 0,
         positive: true,
     }];
-    let regions: [(&[Lit], bool); 2] = [(&[], false), (&with_atom, true)];
-    for (region, value) in regions {
-        moves.begin(alloc, &outer, region, false)?;
-        let Step::Found(set) = moves.next(alloc)? else {
-            return Err(Fail::new("no move was found"));
-        };
-        assert_eq!(rt; set.get(0), value);
-        let core = exhaust(alloc, &mut moves)?;
-        assert!(rt; core.is_empty());
-    }
-    Ok(())
+    expect(is_first_in(alloc, &[], false)?, "all moves")?;
+    expect(is_first_in(alloc, &with_atom, true)?, "moves with the atom")
 }
 
 /// A gate that notes who passed last.

@@ -2,13 +2,14 @@
 //! over bits.
 
 use crate::minimality::{Answer, ask, ask_nogood, atoms_of};
+use crate::texts::expect_number;
 use asp_defs::{GroundRule, NoMemory};
 use search_tests::numbers::draw;
 use std::alloc::Global;
 use std::test::Fail;
 
 /// A rule over the atoms below 8, each list of atoms as bits.
-#[derive(Debug, Clone, Copy, PartialEq, Eq)]
+#[derive(Clone, Copy)]
 pub struct Shape {
     pub choice: bool,
     pub head: u32,
@@ -16,16 +17,23 @@ pub struct Shape {
     pub neg: u32,
 }
 
+fn rule_of(alloc: Global, shape: Shape) -> Result<GroundRule, NoMemory> {
+    let head = atoms_of(alloc, shape.head)?;
+    let pos = atoms_of(alloc, shape.pos)?;
+    let neg = atoms_of(alloc, shape.neg)?;
+    Ok(GroundRule {
+        choice: shape.choice,
+        head,
+        pos,
+        neg,
+    })
+}
+
+/// The rules of these shapes, in their order.
 pub fn rules_of(alloc: Global, shapes: &[Shape]) -> Result<Vec<GroundRule>, NoMemory> {
     let mut rules = Vec::new(alloc);
     for shape in shapes {
-        let rule = GroundRule {
-            choice: shape.choice,
-            head: atoms_of(alloc, shape.head)?,
-            pos: atoms_of(alloc, shape.pos)?,
-            neg: atoms_of(alloc, shape.neg)?,
-        };
-        rules.push(rule)?;
+        rules.push(rule_of(alloc, *shape)?)?;
     }
     Ok(rules)
 }
@@ -38,6 +46,7 @@ fn body_true(shape: Shape, set: u32) -> bool {
     shape.pos & !set == 0 && shape.neg & set == 0
 }
 
+/// Whether the set satisfies the rules.
 pub fn is_model(shapes: &[Shape], set: u32) -> bool {
     shapes.iter().all(|shape| shape.choice || !body_true(*shape, set) || shape.head & set != 0)
 }
@@ -143,14 +152,14 @@ fn draw_shape(seed: &mut u32) -> Shape {
 /// Whether the answers for each set of atoms are right, with a nogood that denies one atom or the whole unfounded set.
 fn are_right(
     alloc: Global,
+    rules: &[GroundRule],
     shapes: &[Shape],
     free: u32,
     outer: Option<u32>,
 ) -> Result<bool, NoMemory> {
-    let rules = rules_of(alloc, shapes)?;
     for set in 0..SETS {
-        let answer = ask(alloc, rules.as_slice(), free, set, 81)?;
-        let clause = ask_nogood(alloc, rules.as_slice(), free, set, outer)?;
+        let answer = ask(alloc, rules, free, set, 81)?;
+        let clause = ask_nogood(alloc, rules, free, set, outer)?;
         if !is_right(shapes, free, set, answer, clause) {
             return Ok(false);
         }
@@ -158,23 +167,30 @@ fn are_right(
     Ok(true)
 }
 
-#[test]
-fn agrees_on_random_programs(rt: HostRuntime) -> Result<(), Fail> {
+/// Whether they are for the next program of the series.
+fn is_next_right(alloc: Global, seed: &mut u32, outer: Option<u32>) -> Result<bool, NoMemory> {
+    let shapes = [
+        draw_shape(seed),
+        draw_shape(seed),
+        draw_shape(seed),
+        draw_shape(seed),
+        draw_shape(seed),
+    ];
+    let free = draw(seed) & draw(seed) & 15;
+    let rules = rules_of(alloc, &shapes)?;
+    are_right(alloc, rules.as_slice(), &shapes, free, outer)
+}
+
+fn run_rounds(alloc: Global, rounds: u32) -> Result<(), Fail> {
     let mut seed = 7;
-    for round in 0..400u32 {
-        let shapes = [
-            draw_shape(&mut seed),
-            draw_shape(&mut seed),
-            draw_shape(&mut seed),
-            draw_shape(&mut seed),
-            draw_shape(&mut seed),
-        ];
-        let free = draw(&mut seed) & draw(&mut seed) & 15;
+    for round in 0..rounds {
         let outer = if round % 2 == 0 { None } else { Some(12) };
-        assert!(rt;
-            are_right(rt.alloc(), &shapes, free, outer)?,
-            "round {round}"
-        );
+        expect_number(is_next_right(alloc, &mut seed, outer)?, "round", round)?;
     }
     Ok(())
+}
+
+#[test]
+fn agrees_on_random_programs(rt: HostRuntime) -> Result<(), Fail> {
+    run_rounds(rt.alloc(), 400)
 }

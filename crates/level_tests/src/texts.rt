@@ -1,35 +1,7 @@
-//! The rules of texts.
+//! The rules of a text, and how a test says which of its rows fails.
 
-use asp_atoms::bases;
-use asp_check::check;
 use asp_defs::{Game, GroundRule};
-use asp_ground::ground;
-use asp_read::read;
-use std::alloc::Global;
 use std::test::Fail;
-
-/// The most bytes of a text.
-const MOST_BYTES: usize = 1_048_576;
-
-/// The game of a text.
-pub fn game_of(alloc: Global, text: &str) -> Result<Game, Fail> {
-    if text.len() > MOST_BYTES {
-        return Err(Fail::new("too long a text"));
-    }
-    let Ok(program) = read(alloc, text.as_bytes()) else {
-        return Err(Fail::new("a text without a program"));
-    };
-    let Ok(checked) = check(alloc, program) else {
-        return Err(Fail::new("a refused program"));
-    };
-    let Ok(bases) = bases(alloc, &checked) else {
-        return Err(Fail::new("too large a base"));
-    };
-    match ground(alloc, &checked, bases) {
-        Ok(game) => Ok(game),
-        Err(_) => Err(Fail::new("too large a game")),
-    }
-}
 
 /// The rules of the first level.
 pub fn first_rules(game: &Game) -> &[GroundRule] {
@@ -37,4 +9,12 @@ pub fn first_rules(game: &Game) -> &[GroundRule] {
         Some(rules) => rules.as_slice(),
         None => &[],
     }
+}
+
+/// Fails with the row's text and number where the row isn't as it should be.
+pub fn expect_number(holds: bool, text: &str, number: u32) -> Result<(), Fail> {
+    if holds {
+        return Ok(());
+    }
+    Err(Fail::new(format_args!("{text}: number {number}")))
 }

@@ -79,10 +79,10 @@ const LEVELS: [(&str, bool); 8] = [
 
 #[test]
 fn solves_bounds(rt: HostRuntime) -> Result<(), Fail> {
-    Ok(solve_rows(&rt, rt.alloc(), &ONE_LEVEL)?)
+    solve_rows(rt.alloc(), &ONE_LEVEL)
 }
 
 #[test]
 fn solves_bounds_over_levels(rt: HostRuntime) -> Result<(), Fail> {
-    Ok(solve_rows(&rt, rt.alloc(), &LEVELS)?)
+    solve_rows(rt.alloc(), &LEVELS)
 }

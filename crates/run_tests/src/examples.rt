@@ -1,15 +1,15 @@
 //! The texts of the repository's folder `examples`, in the order of their names: a test can't read files, so a change of
 //! one is made here too.
-use crate::runs::{check_run, run_text};
+use crate::rows::expect;
+use crate::runs::{check_run, is_run, run_text};
 use asp_top::Status;
-use std::alloc::{AllocError, Global};
-use std::process::Abort;
+use std::alloc::Global;
 use std::test::Fail;
 
 /// A text, and what `solve` says of it, with the exit status.
 type Example = (&'static str, &'static str, u8);
 
-const EXAMPLES: [Example; 10] = [
+const EXAMPLES: [Example; 14] = [
     (
         "% A robot stands in one of three cells of a corridor and can't see which one. A step takes it to the next cell on the
 % left or on the right; at a wall it stays where it is.
@@ -46,6 +46,28 @@ leave :- not stay.
         10,
     ),
     (
+        "% A vault has three locks, and any one of three clerks may be away. Can at most six keys be given out, at most two to each clerk,
+% so that the two who are there always can open the vault?
+% Yes, and `solve` says COHERENT: each clerk gets two keys, and no two lack the same one. With 5 in place of 6 it says INCOHERENT,
+% since each lock needs keys of two clerks.
+
+%@exists
+% The clerks have the numbers 1 to 3, and so have the locks. key(C,L): clerk C has a key to lock L.
+number(1..3).
+{key(C,L) : number(C), number(L)} 6.
+{key(C,L) : number(L)} 2 :- number(C).
+
+%@forall
+1 {away(C) : number(C)} 1.
+open(L) :- key(C,L), not away(C).
+
+%@constraint
+:- number(L), not open(L).
+",
+        "COHERENT\n",
+        10,
+    ),
+    (
         "% Four stones lie in a heap. Two players take one or two of them by turns, and who takes the last stone wins.
 % Is there a first move after which the first player wins, whatever the other one does?
 
@@ -74,6 +96,24 @@ after_third(S) :- after_second(H), third(T), leaves(H,T,S).
         3,
     ),
     (
+        "% A book says of some of three mushrooms that they are safe, of at most one that it is unsafe, and of the others nothing.
+% Whatever it says, are there two that are known to be safe?
+% No, and `solve` says INCOHERENT: the book may say nothing at all. Not to be known to be unsafe is less than to be known to be safe.
+
+%@forall
+number(1..3).
+% safe(M): mushroom M is known to be safe. -safe(M): it is known to be unsafe. No answer set has both.
+{safe(M) : number(M)}.
+{-safe(M) : number(M)} 1.
+
+%@exists
+2 {eaten(M) : number(M)} 2.
+:- eaten(M), not safe(M).
+",
+        "INCOHERENT\n",
+        20,
+    ),
+    (
         "% A fire engine is to stand at one of three crossings. minutes(C,H,M): from crossing C to house H it takes M minutes.
 % Is there a crossing from which no house is more than three minutes away? With 2 in place of 3 there is none, so
 % three minutes are the shortest longest way.
@@ -93,6 +133,24 @@ fire(mill) | fire(school) | fire(harbour).
 ",
         "aspq: not yet\n",
         3,
+    ),
+    (
+        "% A book says of some of three mushrooms that they are safe, of at most one that it is unsafe, and of the others nothing.
+% Whatever it says, are there two that aren't known to be unsafe?
+% Yes, and `solve` says COHERENT: at most one is known to be unsafe, so two others are left.
+
+%@forall
+number(1..3).
+% safe(M): mushroom M is known to be safe. -safe(M): it is known to be unsafe. No answer set has both.
+{safe(M) : number(M)}.
+{-safe(M) : number(M)} 1.
+
+%@exists
+2 {eaten(M) : number(M)} 2.
+:- eaten(M), -safe(M).
+",
+        "COHERENT\n",
+        10,
     ),
     (
         "%@exists
@@ -141,6 +199,24 @@ hall_evening :- panel_evening.
 :- demo_morning, not talk_morning.
 :- demo_evening, hall_evening, not panel_evening.
 :- panel_morning.
+",
+        "COHERENT\n",
+        10,
+    ),
+    (
+        "% Three countries border one another, and each is to get exactly one of three colours. Somebody else colours the first one.
+% Whatever colour it gets, can the other two be coloured so that no neighbours are alike?
+% Yes, and `solve` says COHERENT: the other two get the two colours that are left.
+
+%@forall
+number(1..3).
+1 {first(C) : number(C)} 1.
+
+%@exists
+% colour(N,C): country N has colour C.
+colour(1,C) :- first(C).
+1 {colour(N,C) : number(C)} 1 :- number(N), N > 1.
+:- colour(M,C), colour(N,C), M < N.
 ",
         "COHERENT\n",
         10,
@@ -200,18 +276,22 @@ open(L) :- key(C,L), not away(C).
     ),
 ];
 
+fn examples() -> &'static [Example] {
+    &EXAMPLES
+}
+
 /// Runs `solve` over each text.
-fn solve_rows(rt: &impl Abort, alloc: Global, rows: &[Example]) -> Result<(), AllocError> {
+fn solve_rows(alloc: Global, rows: &[Example]) -> Result<(), Fail> {
     for (text, line, code) in rows {
         let expected = (line.as_bytes(), *code);
-        check_run(rt, alloc, "solve", text.as_bytes(), 60_000, expected, text)?;
+        check_run(alloc, "solve", text.as_bytes(), 60_000, expected, text)?;
     }
     Ok(())
 }
 
 #[test]
 fn solves_the_examples(rt: HostRuntime) -> Result<(), Fail> {
-    Ok(solve_rows(&rt, rt.alloc(), &EXAMPLES)?)
+    solve_rows(rt.alloc(), examples())
 }
 
 /// The canonical text of the first example.
@@ -237,32 +317,29 @@ const CONFORMANT_PLAN: &str = "%@exists\n\
 
 #[test]
 fn prints_an_example(rt: HostRuntime) -> Result<(), Fail> {
-    let (text, _, _) = EXAMPLES[0];
+    let Some((text, _, _)) = examples().first() else {
+        return Err(Fail::new("no example"));
+    };
     let expected = (CONFORMANT_PLAN.as_bytes(), 0);
-    check_run(
-        &rt,
-        rt.alloc(),
-        "check",
-        text.as_bytes(),
-        60_000,
-        expected,
-        text,
-    )?;
-    Ok(())
+    check_run(rt.alloc(), "check", text.as_bytes(), 60_000, expected, text)
 }
 
-/// Runs `check` over each text, and over what it printed of it.
-fn print_rows(rt: &impl Abort, alloc: Global, rows: &[Example]) -> Result<(), AllocError> {
+/// Runs `check` over a text, and over what it printed of it.
+fn check_printed(alloc: Global, text: &str) -> Result<(), Fail> {
+    let (status, first) = run_text(alloc, "check", text.as_bytes(), 60_000)?;
+    let printed = first.taken();
+    let stands = is_run(alloc, "check", printed, 60_000, (printed, 0));
+    expect(status == Status::Done && stands, text)
+}
+
+fn print_rows(alloc: Global, rows: &[Example]) -> Result<(), Fail> {
     for (text, _, _) in rows {
-        let (status, first) = run_text(alloc, "check", text.as_bytes(), 60_000)?;
-        assert!(rt; status == Status::Done, "{text}");
-        let printed = first.taken();
-        check_run(rt, alloc, "check", printed, 60_000, (printed, 0), text)?;
+        check_printed(alloc, text)?;
     }
     Ok(())
 }
 
 #[test]
 fn prints_texts_that_are_printed_as_they_stand(rt: HostRuntime) -> Result<(), Fail> {
-    Ok(print_rows(&rt, rt.alloc(), &EXAMPLES)?)
+    print_rows(rt.alloc(), examples())
 }

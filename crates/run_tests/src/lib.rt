@@ -1,6 +1,6 @@
 //! Tests of the whole run and of sources and sinks in memory, against answers that were found by hand.
 //!
-//! In reading order: `memory` (reading and writing, with pieces, limits and faults), `runs` (how a row is run), `words`,
+//! In reading order: `memory` (reading and writing, with pieces, limits and faults), `rows` (how a row that fails is named), `runs` (how a row is run), `words`,
 //! `refused`, `printed`, `solved`, `games`, `bounds` and `negation` (rows of words, texts, outputs and statuses),
 //! `limits`, `sizes` and `names` (texts that reach or pass a limit), `faults` (sources and sinks that fail), `examples`
 //! (the texts of the folder `examples`).
@@ -26,6 +26,8 @@ mod negation;
 mod printed;
 #[cfg(test)]
 mod refused;
+#[cfg(test)]
+mod rows;
 #[cfg(test)]
 mod runs;
 #[cfg(test)]

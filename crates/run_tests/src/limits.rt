@@ -1,7 +1,6 @@
 //! Texts that reach a limit on programs or on bytes, and those that pass it by one.
 use crate::runs::{check_refusal, check_run, repeated};
 use std::alloc::{AllocError, Global};
-use std::process::Abort;
 use std::test::Fail;
 
 /// The refusal of a text that passes a limit by one, and the canonical text of a program that reaches it: what stands
@@ -42,33 +41,47 @@ const LIMITS: [Limit; 7] = [
     ),
 ];
 
-/// Runs `check` over texts that reach their limits.
-fn accept_rows(rt: &impl Abort, alloc: Global, rows: &[Limit]) -> Result<(), AllocError> {
-    for (refusal, first, part, count, last) in rows {
-        let text = repeated(alloc, first, part, *count, last)?;
-        let bytes = text.as_bytes();
-        check_run(rt, alloc, "check", bytes, 9, (bytes, 0), refusal)?;
+fn limits() -> &'static [Limit] {
+    &LIMITS
+}
+
+/// Runs `check` over the text that reaches its limit.
+fn check_accepted(alloc: Global, row: &Limit) -> Result<(), Fail> {
+    let (refusal, first, part, count, last) = *row;
+    let text = repeated(alloc, first, part, count, last)?;
+    let bytes = text.as_bytes();
+    check_run(alloc, "check", bytes, 9, (bytes, 0), refusal)
+}
+
+fn accept_rows(alloc: Global, rows: &[Limit]) -> Result<(), Fail> {
+    for row in rows {
+        check_accepted(alloc, row)?;
     }
     Ok(())
 }
 
 #[test]
 fn accepts_up_to_each_limit(rt: HostRuntime) -> Result<(), Fail> {
-    Ok(accept_rows(&rt, rt.alloc(), &LIMITS)?)
+    accept_rows(rt.alloc(), limits())
 }
 
-/// Runs texts that pass their limits by one.
-fn refuse_rows(rt: &impl Abort, alloc: Global, rows: &[Limit]) -> Result<(), AllocError> {
-    for (refusal, first, part, count, last) in rows {
-        let text = repeated(alloc, first, part, count.saturating_add(1), last)?;
-        check_refusal(rt, alloc, text.as_bytes(), refusal, first)?;
+/// Runs the text that passes its limit by one.
+fn check_refused(alloc: Global, row: &Limit) -> Result<(), Fail> {
+    let (refusal, first, part, count, last) = *row;
+    let text = repeated(alloc, first, part, count.saturating_add(1), last)?;
+    check_refusal(alloc, text.as_bytes(), refusal, first)
+}
+
+fn refuse_rows(alloc: Global, rows: &[Limit]) -> Result<(), Fail> {
+    for row in rows {
+        check_refused(alloc, row)?;
     }
     Ok(())
 }
 
 #[test]
 fn refuses_past_each_limit(rt: HostRuntime) -> Result<(), Fail> {
-    Ok(refuse_rows(&rt, rt.alloc(), &LIMITS)?)
+    refuse_rows(rt.alloc(), limits())
 }
 
 /// The words, how a text begins, the length to which blanks bring it, its output, the exit status, and the row's name.
@@ -140,17 +153,22 @@ fn lengthened(alloc: Global, text: &str, count: usize) -> Result<Vec<u8>, AllocE
     Ok(bytes)
 }
 
-/// Runs each text at its length.
-fn run_long_rows(rt: &impl Abort, alloc: Global, rows: &[Long]) -> Result<(), AllocError> {
-    for (words, text, length, output, code, name) in rows {
-        let bytes = lengthened(alloc, text, *length)?;
-        let expected = (output.as_bytes(), *code);
-        check_run(rt, alloc, words, bytes.as_slice(), 60_000, expected, name)?;
+/// Runs a text at its length.
+fn check_long(alloc: Global, row: &Long) -> Result<(), Fail> {
+    let (words, text, length, output, code, name) = *row;
+    let bytes = lengthened(alloc, text, length)?;
+    let expected = (output.as_bytes(), code);
+    check_run(alloc, words, bytes.as_slice(), 60_000, expected, name)
+}
+
+fn run_long_rows(alloc: Global, rows: &[Long]) -> Result<(), Fail> {
+    for row in rows {
+        check_long(alloc, row)?;
     }
     Ok(())
 }
 
 #[test]
 fn refuses_a_text_that_is_too_long(rt: HostRuntime) -> Result<(), Fail> {
-    Ok(run_long_rows(&rt, rt.alloc(), &LONG)?)
+    run_long_rows(rt.alloc(), &LONG)
 }

@@ -1,7 +1,9 @@
 //! What a caller of sources and sinks meets: bytes that come in pieces, faults in the middle, limits that are met exactly.
+ghost use Rattle.std.specs.Prelude.{◌≤◌};
+
+use crate::rows::{expect, expect_number};
 use asp_io::{MemSink, MemSource, SureSource, read_all, write_all};
 use std::alloc::{AllocError, Global};
-use std::process::Abort;
 use std::test::Fail;
 
 /// Bytes of a call, the limit, the call that fails (from 1), and what is read of `abcde`.
@@ -34,23 +36,31 @@ fn read_piecewise(
     Ok(read_all(alloc, &mut source, limit.min(1_048_577)).ok())
 }
 
-fn read_rows(rt: &impl Abort, alloc: Global, rows: &[Read]) -> Result<(), AllocError> {
-    for (most, limit, failing, want) in rows {
-        let read = read_piecewise(alloc, *most, *limit, *failing)?;
-        let read = read.as_ref().map(|bytes| bytes.as_slice());
-        let want = want.map(|text| text.as_bytes());
-        assert_eq!(rt;
-            read,
-            want,
-            "{most} a call, limit {limit}, call {failing} fails"
-        );
+/// Whether that much is read; nothing where the reading fails.
+fn is_read(alloc: Global, row: &Read) -> bool {
+    let (most, limit, failing, want) = *row;
+    match read_piecewise(alloc, most, limit, failing) {
+        Ok(Some(bytes)) => match want {
+            Some(text) => bytes.as_slice() == text.as_bytes(),
+            None => false,
+        },
+        Ok(None) => want.is_none(),
+        Err(_) => false,
+    }
+}
+
+fn read_rows(alloc: Global, rows: &[Read]) -> Result<(), Fail> {
+    let mut number = 0u32;
+    for row in rows {
+        number = number.saturating_add(1);
+        expect_number(is_read(alloc, row), "read", number)?;
     }
     Ok(())
 }
 
 #[test]
 fn reads_to_the_end_or_to_the_limit(rt: HostRuntime) -> Result<(), Fail> {
-    Ok(read_rows(&rt, rt.alloc(), &READ)?)
+    read_rows(rt.alloc(), &READ)
 }
 
 /// How many bytes there are, and the limit.
@@ -61,30 +71,43 @@ const LONG: [(usize, u64); 4] = [
     (70_000, 69_999),
 ];
 
-/// How many bytes a first and a second reading give of so many.
-fn read_twice(alloc: Global, count: usize, limit: u64) -> Result<(usize, usize), Fail> {
-    let limit = limit.min(1_048_577);
-    let mut bytes = Vec::new(alloc);
-    bytes.resize(count, b'x')?;
-    let mut source = SureSource::new(bytes, 65_000);
-    let read = read_all(alloc, &mut source, limit)?;
-    let rest = read_all(alloc, &mut source, limit)?;
-    Ok((read.len(), rest.len()))
+/// How many bytes a first and a second reading give.
+fn read_twice(alloc: Global, source: &mut SureSource, limit: u64) -> Option<(usize, usize)>
+    requires { limit ≤ 1048577 }
+{
+    let read = read_all(alloc, source, limit).ok()?.len();
+    let rest = read_all(alloc, source, limit).ok()?.len();
+    Some((read, rest))
 }
 
-fn read_long_rows(rt: &impl Abort, alloc: Global, rows: &[(usize, u64)]) -> Result<(), Fail> {
+/// Whether a first reading of so many bytes ends at the limit, and a second one gives the rest.
+fn is_read_twice(alloc: Global, count: usize, limit: u64) -> bool {
+    let limit = limit.min(1_048_577);
+    let mut bytes = Vec::new(alloc);
+    if bytes.resize(count, b'x').is_err() {
+        return false;
+    }
+    let mut source = SureSource::new(bytes, 65_000);
+    match read_twice(alloc, &mut source, limit) {
+        Some((read, rest)) => {
+            read as u64 == limit.min(count as u64) && rest == count.saturating_sub(read)
+        }
+        None => false,
+    }
+}
+
+fn read_long_rows(alloc: Global, rows: &[(usize, u64)]) -> Result<(), Fail> {
+    let mut number = 0u32;
     for (count, limit) in rows {
-        let (read, rest) = read_twice(alloc, *count, *limit)?;
-        let is_right = read as u64 == (*limit).min(*count as u64)
-            && rest == count.saturating_sub(read);
-        assert!(rt; is_right, "{count} bytes, limit {limit}");
+        number = number.saturating_add(1);
+        expect_number(is_read_twice(alloc, *count, *limit), "read twice", number)?;
     }
     Ok(())
 }
 
 #[test]
 fn reads_more_than_one_piece(rt: HostRuntime) -> Result<(), Fail> {
-    read_long_rows(&rt, rt.alloc(), &LONG)
+    read_long_rows(rt.alloc(), &LONG)
 }
 
 /// Room, bytes of a call, the call that fails (from 1), and what the sink holds of `abcde`.
@@ -116,27 +139,32 @@ fn write_piecewise(
     Ok((sink, written))
 }
 
-fn write_rows(rt: &impl Abort, alloc: Global, rows: &[Written]) -> Result<(), AllocError> {
-    for (room, most, failing, want) in rows {
-        let (sink, written) = write_piecewise(alloc, *room, *most, *failing)?;
-        let is_right = sink.taken() == want.as_bytes() && written == (want.len() == 5);
-        assert!(rt;
-            is_right,
-            "{room} in all, {most} a call, call {failing} fails"
-        );
+/// Whether the sink holds that much, and tells whether it is all.
+fn is_written(alloc: Global, row: &Written) -> bool {
+    let (room, most, failing, want) = *row;
+    match write_piecewise(alloc, room, most, failing) {
+        Ok((sink, written)) => sink.taken() == want.as_bytes() && written == (want.len() == 5),
+        Err(_) => false,
+    }
+}
+
+fn write_rows(alloc: Global, rows: &[Written]) -> Result<(), Fail> {
+    let mut number = 0u32;
+    for row in rows {
+        number = number.saturating_add(1);
+        expect_number(is_written(alloc, row), "write", number)?;
     }
     Ok(())
 }
 
 #[test]
 fn writes_all_or_a_prefix(rt: HostRuntime) -> Result<(), Fail> {
-    Ok(write_rows(&rt, rt.alloc(), &WRITTEN)?)
+    write_rows(rt.alloc(), &WRITTEN)
 }
 
 #[test]
 fn writes_nothing_without_a_call(rt: HostRuntime) -> Result<(), Fail> {
     let alloc = rt.alloc();
     let mut sink = MemSink::new(alloc, 0, 1, [1].to_vec(alloc)?)?;
-    assert!(rt; write_all(&mut sink, b"").is_ok());
-    Ok(())
+    expect(write_all(&mut sink, b"").is_ok(), "nothing to write")
 }

@@ -2,7 +2,6 @@
 //! in which the name would stand half a million times.
 use crate::runs::{check_refusal, check_run, repeated};
 use std::alloc::{AllocError, Global};
-use std::process::Abort;
 use std::test::Fail;
 
 /// A text whose first fact has a name of 100,000 letters, and what stands behind it.
@@ -12,15 +11,19 @@ fn long_name(alloc: Global, behind: &str) -> Result<String, AllocError> {
     Ok(text)
 }
 
+/// Runs both commands over a text that is accepted, and has no answer yet.
+fn check_accepted(alloc: Global, text: &str) -> Result<(), Fail> {
+    let bytes = text.as_bytes();
+    check_run(alloc, "check", bytes, 60_000, (bytes, 0), "long name")?;
+    let not_yet = (b"aspq: not yet\n".as_slice(), 3);
+    check_run(alloc, "solve", bytes, 60_000, not_yet, "long name")
+}
+
 #[test]
 fn accepts_a_long_name_beside_many_atoms(rt: HostRuntime) -> Result<(), Fail> {
     let alloc = rt.alloc();
     let text = long_name(alloc, "q(c,c,c,c,c,c,c,c,c,c,c,c,c,c,c,c).\n")?;
-    let bytes = text.as_bytes();
-    check_run(&rt, alloc, "check", bytes, 60_000, (bytes, 0), "long name")?;
-    let not_yet = (b"aspq: not yet\n".as_slice(), 3);
-    check_run(&rt, alloc, "solve", bytes, 60_000, not_yet, "long name")?;
-    Ok(())
+    check_accepted(alloc, text.as_str())
 }
 
 /// What stands behind the fact, and why the text is refused for its atoms or its instances.
@@ -37,15 +40,19 @@ const LARGE: [(&str, &str); 2] = [
     ),
 ];
 
-fn refuse_rows(rt: &impl Abort, alloc: Global, rows: &[(&str, &str)]) -> Result<(), AllocError> {
+fn check_refused(alloc: Global, behind: &str, reason: &str) -> Result<(), Fail> {
+    let text = long_name(alloc, behind)?;
+    check_refusal(alloc, text.as_bytes(), reason, reason)
+}
+
+fn refuse_rows(alloc: Global, rows: &[(&str, &str)]) -> Result<(), Fail> {
     for (behind, reason) in rows {
-        let text = long_name(alloc, behind)?;
-        check_refusal(rt, alloc, text.as_bytes(), reason, reason)?;
+        check_refused(alloc, behind, reason)?;
     }
     Ok(())
 }
 
 #[test]
 fn refuses_large_games_beside_a_long_name(rt: HostRuntime) -> Result<(), Fail> {
-    Ok(refuse_rows(&rt, rt.alloc(), &LARGE)?)
+    refuse_rows(rt.alloc(), &LARGE)
 }

@@ -34,5 +34,5 @@ const ROWS: [(&str, bool); 20] = [
 
 #[test]
 fn solves_strong_negation(rt: HostRuntime) -> Result<(), Fail> {
-    Ok(solve_rows(&rt, rt.alloc(), &ROWS)?)
+    solve_rows(rt.alloc(), &ROWS)
 }

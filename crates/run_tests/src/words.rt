@@ -61,5 +61,5 @@ const WORKED: [Row; 23] = [
 
 #[test]
 fn answers_worked_texts(rt: HostRuntime) -> Result<(), Fail> {
-    Ok(run_rows(&rt, rt.alloc(), &WORKED)?)
+    run_rows(rt.alloc(), &WORKED)
 }

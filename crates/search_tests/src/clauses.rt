@@ -15,6 +15,14 @@ enum Act {
     Decide(u32, bool),
     /// Adds the clause that excludes atoms 3 and 0 together, which gets this number.
     Exclude(u32),
+    /// The same, until the book settles.
+    ExcludeLoosely(u32),
+    /// The same, as a learned clause of three decision levels.
+    Learn(u32),
+    /// Settles over the empty trail, and has so many clauses then.
+    Settle(u32),
+    /// Removes all learned clauses that are no reason, and has so many clauses then.
+    Forget(u32),
     Propagate(Result<Option<u32>, Spent>),
     Reset,
 }
@@ -83,6 +91,86 @@ const UNTIL_SPENT: [Line; 5] = [
     ),
 ];
 
+/// Over the chain and a budget of nine placements.
+const WHILE_LOOSE: [Line; 9] = [
+    (
+        "excludes both ends for a while",
+        Act::ExcludeLoosely(3),
+        0,
+        0,
+        0,
+    ),
+    ("decides atom 3", Act::Decide(7, true), 0b1000_0000, 1, 1),
+    (
+        "implies that atom 0 is false",
+        Act::Propagate(Ok(None)),
+        0b1000_0001,
+        1,
+        2,
+    ),
+    ("goes back to the start", Act::Reset, 0, 0, 0),
+    ("drops the loose clause", Act::Settle(3), 0, 0, 0),
+    (
+        "decides atom 3 again",
+        Act::Decide(7, true),
+        0b1000_0000,
+        1,
+        1,
+    ),
+    (
+        "implies nothing",
+        Act::Propagate(Ok(None)),
+        0b1000_0000,
+        1,
+        1,
+    ),
+    ("decides atom 0", Act::Decide(1, true), 0b1000_0010, 2, 2),
+    (
+        "implies the atoms between",
+        Act::Propagate(Ok(None)),
+        0b1010_1010,
+        2,
+        4,
+    ),
+];
+
+/// Over the chain and a budget of nine placements.
+const WHILE_LEARNED: [Line; 9] = [
+    (
+        "learns that both ends exclude each other",
+        Act::Learn(3),
+        0,
+        0,
+        0,
+    ),
+    ("decides atom 3", Act::Decide(7, true), 0b1000_0000, 1, 1),
+    (
+        "implies that atom 0 is false",
+        Act::Propagate(Ok(None)),
+        0b1000_0001,
+        1,
+        2,
+    ),
+    ("keeps the reason", Act::Forget(4), 0b1000_0001, 1, 2),
+    ("goes back to the start", Act::Reset, 0, 0, 0),
+    ("keeps what is firm", Act::Settle(4), 0, 0, 0),
+    ("drops what was learned", Act::Forget(3), 0, 0, 0),
+    (
+        "decides atom 3 again",
+        Act::Decide(7, true),
+        0b1000_0000,
+        1,
+        1,
+    ),
+    (
+        "implies nothing",
+        Act::Propagate(Ok(None)),
+        0b1000_0000,
+        1,
+        1,
+    ),
+];
+
 /// The literals of four atoms that have this value, as bits.
 fn valued(trail: &Trail, value: bool) -> u32
     requires { 4 ≤ trail.now.atoms }
@@ -125,6 +213,42 @@ fn decides(book: &Book, trail: &mut Trail, literal: u32) -> bool
     trail.value(literal).is_none() && trail.decide(literal).is_ok()
 }
 
+/// Settles if no literal is placed, and whether there are so many clauses then.
+fn settles(book: &mut Book, trail: &Trail, count: u32) -> bool
+    requires goes { Goes book.old trail.now }
+    requires four { book.old.atoms ≡ 4 }
+    ensures goes { Goes book.new trail.now }
+    ensures four { book.new.atoms ≡ 4 }
+{
+    if !trail.is_empty() {
+        return false;
+    }
+    book.settle(trail);
+    book.len() == count
+}
+
+/// Removes the learned clauses that are no reason, and whether there are so many clauses then.
+fn forgets(alloc: Global, book: &mut Book, trail: &mut Trail, count: u32) -> bool
+    requires goes { Goes book.old trail.old }
+    requires four { book.old.atoms ≡ 4 }
+    ensures goes { Goes book.new trail.new }
+    ensures four { book.new.atoms ≡ 4 }
+{
+    let mut stays = match none_stays(alloc, book.len()) {
+        Ok(stays) => stays,
+        Err(_) => return false,
+    };
+    book.remove(trail, stays.as_mut_slice());
+    book.len() == count
+}
+
+/// A mark for each of so many clauses, which says that it isn't to stay.
+fn none_stays(alloc: Global, clauses: u32) -> Result<Vec<bool>, NoMemory>
+    ensures { IfOk result (λ stays. length stays.items ≡ clauses) }
+{
+    Ok(vec![in alloc; false; clauses as usize]?)
+}
+
 /// Whether what is done is answered as it should be.
 fn is_done(alloc: Global, book: &mut Book, trail: &mut Trail, act: &Act) -> bool
     requires goes { Goes book.old trail.old }
@@ -135,6 +259,10 @@ fn is_done(alloc: Global, book: &mut Book, trail: &mut Trail, act: &Act) -> bool
     match act {
         Act::Decide(literal, decided) => decides(book, trail, *literal) == *decided,
         Act::Exclude(number) => book.add(alloc, &[6, 0]) == Ok(*number),
+        Act::ExcludeLoosely(number) => book.add_loose(alloc, &[6, 0]) == Ok(*number),
+        Act::Learn(number) => book.add_learned(alloc, &[6, 0], false, 3) == Ok(*number),
+        Act::Settle(count) => settles(book, trail, *count),
+        Act::Forget(count) => forgets(alloc, book, trail, *count),
         Act::Propagate(answer) => propagate(book, trail) == *answer,
         Act::Reset => {
             trail.reset();
@@ -197,6 +325,16 @@ fn propagates_along_a_chain(rt: HostRuntime) -> Result<(), Fail> {
 #[test]
 fn propagates_until_spent(rt: HostRuntime) -> Result<(), Fail> {
     begin_chain(rt.alloc(), 3, &UNTIL_SPENT)
+}
+
+#[test]
+fn drops_loose_clauses(rt: HostRuntime) -> Result<(), Fail> {
+    begin_chain(rt.alloc(), 9, &WHILE_LOOSE)
+}
+
+#[test]
+fn drops_learned_clauses(rt: HostRuntime) -> Result<(), Fail> {
+    begin_chain(rt.alloc(), 9, &WHILE_LEARNED)
 }
 
 /// Whether the trail has the negation of atom 0 alone, not as a decision, after so many placements.

@@ -3,7 +3,7 @@
 ghost use Rattle.std.specs.Prelude.{◌<◌};
 
 use crate::numbers::draw;
-use crate::probe::{Answer, Probe, ask, ask_in_order, bit, probe_of};
+use crate::probe::{Answer, Probe, add_loose, ask, ask_in_order, bit, probe_of};
 use crate::rows::expect_number;
 use asp_search::NoMemory;
 use std::alloc::Global;
@@ -99,16 +99,20 @@ fn is_right_twice(alloc: Global, probe: &mut Probe, clauses: &[u32]) -> Result<b
     Ok(is_right(answer, clauses, 0) && first == first_of(clauses))
 }
 
-/// Whether a search over three atoms, which places fewer than 3^3 literals, is right.
-fn try_clauses(alloc: Global, clauses: &[u32]) -> Result<bool, Fail> {
+/// Whether a search over three atoms, which places fewer than 3^3 literals, is right; `forgets` has learned clauses dropped at
+/// every conflict.
+fn try_clauses(alloc: Global, clauses: &[u32], forgets: bool) -> Result<bool, Fail> {
     let mut probe = probe_of(alloc, 3, 27, clauses)?;
+    probe.forget_if(forgets);
     is_right_twice(alloc, &mut probe, clauses)
 }
 
-/// Whether a search is right for the formula of a number.
+/// Whether searches are right for the formula of a number.
 fn try_formula(alloc: Global, number: u32) -> Result<bool, Fail> {
     let clauses = formula_of(alloc, number)?;
-    try_clauses(alloc, clauses.as_slice())
+    let keeping = try_clauses(alloc, clauses.as_slice(), false)?;
+    let forgetting = try_clauses(alloc, clauses.as_slice(), true)?;
+    Ok(keeping && forgetting)
 }
 
 // All formulas of up to three atoms and four clauses: a clause is one of the 27 sets of literals without both of an
@@ -156,6 +160,7 @@ fn is_right_freed(
     assumed: u32,
 ) -> Result<bool, Fail> {
     let under = ask(alloc, probe, assumed)?;
+    probe.forget();
     let free = ask(alloc, probe, 0)?;
     Ok(is_right(under, clauses, assumed) && is_right(free, clauses, 0))
 }
@@ -178,6 +183,52 @@ fn agrees_on_random_formulas(rt: HostRuntime) -> Result<(), Fail> {
     let mut seed = 1;
     for round in 0..500u32 {
         expect_number(try_random(rt.alloc(), &mut seed, round % 50)?, round)?;
+    }
+    Ok(())
+}
+
+/// The clauses of both lists.
+fn joined(alloc: Global, first: &[u32], second: &[u32]) -> Result<Vec<u32>, NoMemory> {
+    let mut both = Vec::from_slice(alloc, first)?;
+    for clause in second {
+        both.push(*clause)?;
+    }
+    Ok(both)
+}
+
+/// Whether a search that forgets is right while loose clauses hold: `all` are the firm and the loose ones.
+fn is_right_loosely(
+    alloc: Global,
+    probe: &mut Probe,
+    loose: &[u32],
+    all: &[u32],
+) -> Result<bool, Fail> {
+    probe.forget();
+    add_loose(alloc, probe, loose)?;
+    Ok(is_right(probe.next(alloc), all, 0))
+}
+
+/// Whether a search over eight atoms is right while loose clauses hold, and afterwards.
+fn try_loose(alloc: Global, firm: &[u32], loose: &[u32]) -> Result<bool, Fail> {
+    let mut probe = probe_of(alloc, 8, 6561, firm)?;
+    let all = joined(alloc, firm, loose)?;
+    let both = is_right_loosely(alloc, &mut probe, loose, all.as_slice())?;
+    let alone = ask(alloc, &mut probe, 0)?;
+    Ok(both && is_right(alone, firm, 0))
+}
+
+/// Whether a search is right for firm and loose clauses that are drawn.
+fn try_random_loose(alloc: Global, seed: &mut u32, clauses: u32) -> Result<bool, Fail> {
+    let firm = draw_formula(alloc, seed, clauses)?;
+    let loose = draw_formula(alloc, seed, 10)?;
+    try_loose(alloc, firm.as_slice(), loose.as_slice())
+}
+
+#[test]
+fn agrees_while_loose_clauses_hold(rt: HostRuntime) -> Result<(), Fail> {
+    let mut seed = 2;
+    for round in 0..500u32 {
+        expect_number(try_random_loose(rt.alloc(), &mut seed, round % 40)?, round)?;
     }
     Ok(())
 }

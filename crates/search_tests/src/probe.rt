@@ -58,6 +58,27 @@ impl Probe {
         Ok(())
     }
 
+    /// Adds a clause that holds until the search begins again, and fails where a code is no literal of the atoms.
+    pub fn add_loose(&mut self, alloc: Global, clause: &[u32]) -> Result<(), Fail> {
+        if !are_codes(clause, self.atoms) {
+            return Err(Fail::new("no literals of the atoms"));
+        }
+        self.search.add_loose(alloc, clause)?;
+        Ok(())
+    }
+
+    /// Has learned clauses dropped at every conflict.
+    pub fn forget(&mut self) {
+        self.search.set_interval(1);
+    }
+
+    /// The same, where it is so wished.
+    pub fn forget_if(&mut self, wished: bool) {
+        if wished {
+            self.forget();
+        }
+    }
+
     /// Begins under assumptions, and fails where they aren't ascending literals of the atoms.
     pub fn begin(&mut self, alloc: Global, assumed: &[u32]) -> Result<(), Fail> {
         self.begin_as(alloc, assumed, false)
@@ -140,6 +161,15 @@ fn add_bits(alloc: Global, probe: &mut Probe, clause: u32) -> Result<(), Fail> {
 fn add_all(alloc: Global, probe: &mut Probe, clauses: &[u32]) -> Result<(), Fail> {
     for clause in clauses {
         add_bits(alloc, probe, *clause)?;
+    }
+    Ok(())
+}
+
+/// Adds clauses that are bits of literals, and that hold until the search begins again.
+pub fn add_loose(alloc: Global, probe: &mut Probe, clauses: &[u32]) -> Result<(), Fail> {
+    for clause in clauses {
+        let literals = literals_of(alloc, *clause)?;
+        probe.add_loose(alloc, literals.as_slice())?;
     }
     Ok(())
 }

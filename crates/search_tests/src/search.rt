@@ -20,6 +20,8 @@ const ALL_FALSE: u32 = 0x5555_5555;
 enum Act {
     /// Adds the clause of these literals.
     Add(&'static [u32]),
+    /// Adds the clause of these literals until the search begins anew.
+    AddLoose(&'static [u32]),
     /// Begins anew under the assumption of these literals.
     Begin(&'static [u32]),
     /// The next answer is this one.
@@ -30,6 +32,8 @@ enum Act {
     Placed(u64, u64),
     /// So many clauses are kept.
     Clauses(u32),
+    /// So many conflicts taught a clause.
+    Conflicts(u64),
     /// So many literals may be placed.
     Budget(u64),
     /// Adds that each atom implies the next, over as many as there can be.
@@ -43,7 +47,7 @@ enum Act {
 /// A name, how many atoms there are, the budget, and what is done one after the other.
 type Script = (&'static str, u32, u64, &'static [Act]);
 
-const SCRIPTS: [Script; 8] = [
+const SCRIPTS: [Script; 10] = [
     // Atom 0 or atom 1, and not atom 0: both literals are implied.
     (
         "finds the one assignment",
@@ -117,6 +121,21 @@ const SCRIPTS: [Script; 8] = [
             Act::Right(&[0b1010, 0b0110]),
         ],
     ),
+    // All four clauses over two atoms: not atom 0 implies atom 1, which is a conflict, and so is atom 0 then.
+    (
+        "learns from a conflict",
+        2,
+        9,
+        &[
+            Act::Add(&[1, 3]),
+            Act::Add(&[1, 2]),
+            Act::Add(&[0, 3]),
+            Act::Add(&[0, 2]),
+            Act::Answer(Answer::Core(0, 0)),
+            Act::Placed(1, 4),
+            Act::Conflicts(1),
+        ],
+    ),
     // All but the first atom are implied; the first atom and not the last one exclude each other.
     (
         "follows the longest chain",
@@ -142,6 +161,21 @@ const SCRIPTS: [Script; 8] = [
             Act::Answer(Answer::Found(ALL_FALSE)),
             Act::BeginLongest(true),
             Act::Answer(Answer::Core(ALL_TRUE, 262_144)),
+        ],
+    ),
+    // Atom 0 or atom 1, and neither of them while two loose clauses hold.
+    (
+        "drops loose clauses",
+        2,
+        9,
+        &[
+            Act::Add(&[1, 3]),
+            Act::AddLoose(&[0]),
+            Act::AddLoose(&[2]),
+            Act::Answer(Answer::Core(0, 0)),
+            Act::Begin(&[]),
+            Act::Clauses(1),
+            Act::Right(&[0b1010]),
         ],
     ),
 ];
@@ -191,6 +225,7 @@ fn begin_longest(alloc: Global, probe: &mut Probe, value: bool) -> Result<(), Fa
 fn does(alloc: Global, probe: &mut Probe, act: &Act) -> Result<bool, Fail> {
     match act {
         Act::Add(clause) => probe.add(alloc, clause)?,
+        Act::AddLoose(clause) => probe.add_loose(alloc, clause)?,
         Act::Begin(assumed) => probe.begin(alloc, assumed)?,
         Act::AddChain => add_chain(alloc, probe)?,
         Act::AddLongest => add_longest(alloc, probe)?,
@@ -207,6 +242,7 @@ fn tells(alloc: Global, probe: &mut Probe, act: &Act) -> bool {
         Act::Right(clauses) => is_right(probe.next(alloc), clauses, 0),
         Act::Placed(decisions, placements) => has_placed(probe, *decisions, *placements),
         Act::Clauses(count) => probe.search.clauses() == *count,
+        Act::Conflicts(count) => probe.search.conflicts() == *count,
         Act::Budget(budget) => probe.search.budget() == *budget,
         _ => false,
     }

@@ -24,12 +24,14 @@ pub enum Head {
     Free(Option<u32>, [Element; 3], Option<u32>),
 }
 
+/// A rule or a choice: what stands before the body, and the body.
 #[derive(Clone, Copy)]
 pub struct Statement {
     pub head: Head,
     pub body: Literals,
 }
 
+/// The rules of a level, and whether it is universal.
 #[derive(Clone, Copy)]
 pub struct Level {
     pub universal: bool,

@@ -5,10 +5,10 @@ ghost use Rattle.asp_bits.specs.Places.{true_places};
 ghost use Rattle.asp_defs.specs.Entries.{cube_holds};
 ghost use Rattle.asp_entry.specs.Cubes.{lits_ascend, are_lits_below};
 
-use crate::rows::expect;
 use asp_bits::Bits;
 use asp_defs::{List, Lit, NoMemory};
 use asp_entry::{Cube, Entry};
+use bases_tests::rows::expect;
 use std::alloc::Global;
 use std::test::Fail;
 
@@ -54,10 +54,13 @@ fn has_lits(cube: &Cube, atoms: &[u32]) -> bool {
     lits.len() == atoms.len()
 }
 
-/// The even atoms below 20, but for one place that is turned.
+/// Above all atoms of the cubes.
+const PLACES: u32 = 3_000;
+
+/// The even atoms, but for one place that is turned.
 fn even_atoms(alloc: Global, turned: Option<u32>) -> Result<Bits, NoMemory> {
-    let mut set = Bits::new(alloc, 20)?;
-    for place in 0..20 {
+    let mut set = Bits::new(alloc, PLACES)?;
+    for place in 0..PLACES {
         if place < set.len() {
             set.set(place, (place % 2 == 0) != (turned == Some(place)));
         }
@@ -71,7 +74,8 @@ fn are_in(lits: &[Lit], count: u32) -> bool
     lits.iter().all(|lit| lit.atom < count)
 }
 
-fn is_held(cube: &Cube, set: &Bits) -> bool
+/// Whether the cube holds the set, which has a place for each of its atoms.
+pub fn is_held(cube: &Cube, set: &Bits) -> bool
     ensures { IsTrue result → IsTrue (cube_holds cube.now (true_places set.now)) }
 {
     are_in(cube.lits(), set.len()) && cube.holds(set)
@@ -187,6 +191,76 @@ fn join_rows(alloc: Global, rows: &[Joined]) -> Result<(), Fail> {
 #[test]
 fn joins_cubes(rt: HostRuntime) -> Result<(), Fail> {
     join_rows(rt.alloc(), &JOINED)
+}
+
+/// Atoms: the first, how much each comes after the one before, and how many.
+type Run = (u32, u32, u32);
+
+/// A name, the atoms of two cubes, and how many both have together.
+type Long = (&'static str, Run, Run, usize);
+
+const LONG: [Long; 6] = [
+    ("eight", (0, 1, 8), (0, 1, 0), 8),
+    ("nine", (0, 1, 9), (3, 2, 2), 9),
+    ("1,000, and none of them", (0, 2, 1000), (1, 2, 1000), 2000),
+    ("1,000, and some of them", (0, 2, 1000), (0, 3, 1000), 1666),
+    ("1,000, and all of them", (0, 3, 1000), (0, 3, 1000), 1000),
+    ("none, and 1,000", (0, 1, 0), (0, 3, 1000), 1000),
+];
+
+/// The atoms of a run.
+fn atoms(alloc: Global, run: Run) -> Result<Vec<u32>, NoMemory> {
+    let (first, step, count) = run;
+    let mut atoms = Vec::new(alloc);
+    let mut atom = first;
+    for _ in 0..count {
+        atoms.push(atom)?;
+        atom = atom.saturating_add(step);
+    }
+    Ok(atoms)
+}
+
+/// The cube of the literals on a run of atoms.
+fn long_cube(alloc: Global, run: Run) -> Option<Cube> {
+    let Ok(atoms) = atoms(alloc, run) else {
+        return None;
+    };
+    cube(alloc, atoms.as_slice())
+}
+
+/// Whether there are so many literals, in their order, each with its atom's truth.
+fn are_lits(lits: &[Lit], count: usize) -> bool {
+    lits.len() == count
+        && do_ascend(lits)
+        && lits.iter().all(|lit| lit.positive == (lit.atom % 2 == 0))
+}
+
+/// Whether the two cubes hold the even atoms, and one joined to the other has so many literals and holds them too.
+fn is_long_joined(alloc: Global, row: &Long) -> bool {
+    let Some(mut joined) = long_cube(alloc, row.1) else {
+        return false;
+    };
+    match long_cube(alloc, row.2) {
+        Some(second) => {
+            join(alloc, &mut joined, &second)
+                && are_lits(joined.lits(), row.3)
+                && holds(alloc, &joined, None) == Some(true)
+                && holds(alloc, &joined, Some(0)) == Some(false)
+        }
+        None => false,
+    }
+}
+
+fn long_rows(alloc: Global, rows: &[Long]) -> Result<(), Fail> {
+    for row in rows {
+        expect(is_long_joined(alloc, row), row.0)?;
+    }
+    Ok(())
+}
+
+#[test]
+fn joins_long_cubes(rt: HostRuntime) -> Result<(), Fail> {
+    long_rows(rt.alloc(), &LONG)
 }
 
 /// A name, the literals of an entry's cube, its seed, and how many cells it has.

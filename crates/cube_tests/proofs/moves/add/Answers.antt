@@ -1,0 +1,8 @@
+use Rattle.std.proofs.Common.{arith}
+use Rattle.cube_tests.proofs.Moving.{within_with}
+use Rattle.cube_tests.proofs.moves.add.Goals as goal
+
+pub returns-then-atom-len-clause-within : goal.returns-then-atom-len-clause-within
+returns-then-atom-len-clause-within c =
+    within_with c.args.base.now c.args.place _ c.args.set.now c.set.new.self c.if-place-base.false
+    (omega (arith, c.if-atom-len.true, c.len.ensures)) c.requires c.set.ensures
