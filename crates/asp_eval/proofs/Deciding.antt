@@ -225,6 +225,15 @@ literals-agree I C M h a i =
     alike (holds I a) (holds M a)
     (all_at (lit_true M) (map (literal_in I) C) (literal_in I a) h (map_from (literal_in I) C a (holds_at C a i)))
 
+-- the literals' atoms ascend
+atoms-of : (I C : List ℕ) → map (λ (l : Lit). l.atom) (map (literal_in I) C) ≡ C
+atoms-of I [] = refl
+atoms-of I (a ∷ C) = ap (λ xs. a ∷ xs) (atoms-of I C)
+
+pub literals-ascend : (I : List ℕ) (values : List Bool) (lits : List Lit) → lits ≡ map (literal_in I) (true_places values) → lits_ascend lits ≡ true
+literals-ascend I values lits lits_are =
+    ap lits_ascend lits_are ∙ (ap ascends (atoms-of I (true_places values)) ∙ ascends-true_from 0 values)
+
 -- the literals of the atoms that decide are a judgement
 pub judgement : (g : Game) (I : List ℕ) (count : ℕ) (verdict : Bool) (values : List Bool) (lits : List Lit) → is_subset I (base g (level_count g)) ≡ true
     → IsDecided g I count verdict values → lits ≡ map (literal_in I) (true_places values) → IsJudgement g I verdict lits
@@ -236,6 +245,7 @@ judgement g I count verdict values lits subset decided lits_are =
     holds_from C l.atom (subst (λ (a : ℕ). IsIn a C) (sym (ap (λ (x : Lit). x.atom) found.2)) found.1) in
     record {
       right = decided.decided I subset (λ a i. refl);
+      ascend = literals-ascend I values lits lits_are;
       on_base = λ l i. decided.atoms.outer l.atom (from l i);
       stand = λ l i.
           or_left (stands_in_rules l.atom (rules_of g (level_count g + 1))) (stands_in_bounds l.atom (bounds_of g (level_count g + 1)))
@@ -244,12 +254,3 @@ judgement g I count verdict values lits subset decided lits_are =
       sound = λ M inside h.
           decided.decided M inside (literals-agree I C M (subst (λ (ls : List Lit). cube_holds ls M ≡ true) lits_are h));
     }
-
--- the literals' atoms ascend
-atoms-of : (I C : List ℕ) → map (λ (l : Lit). l.atom) (map (literal_in I) C) ≡ C
-atoms-of I [] = refl
-atoms-of I (a ∷ C) = ap (λ xs. a ∷ xs) (atoms-of I C)
-
-pub literals-ascend : (I : List ℕ) (values : List Bool) (lits : List Lit) → lits ≡ map (literal_in I) (true_places values) → lits_ascend lits ≡ true
-literals-ascend I values lits lits_are =
-    ap lits_ascend lits_are ∙ (ap ascends (atoms-of I (true_places values)) ∙ ascends-true_from 0 values)

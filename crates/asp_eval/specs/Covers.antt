@@ -11,6 +11,7 @@ use Rattle.asp_defs.specs.Interpretations.{holds}
 use Rattle.asp_defs.specs.Games.{base, level_count, rule_atoms, is_subset}
 use Rattle.asp_defs.specs.Values.{value}
 use Rattle.asp_defs.specs.Entries.{cube_holds, stands_at}
+use Rattle.asp_entry.specs.Cubes.{lits_ascend}
 use Rattle.asp_defs.specs.History.{agrees}
 
 -- values are true at the places of these atoms alone
@@ -51,9 +52,10 @@ pub record AreRuleAtoms (B C : List ℕ) (rules : List GroundRule) : Type 0 wher
 abbrev pub literal_in : List ℕ → ℕ → Lit
 literal_in I a = record { atom = a; positive = holds I a }
 
--- a verdict with literals that hold the move and moves of that verdict alone
+-- a verdict with literals, whose atoms ascend, that hold the move and moves of that verdict alone
 pub record IsJudgement (g : Game) (I : List ℕ) (verdict : Bool) (lits : List Lit) : Type 0 where
   pub right : value g (level_count g + 1) I ≡ verdict
+  pub ascend : lits_ascend lits ≡ true
   pub on_base : (l : Lit) → IsIn l lits → holds (base g (level_count g)) l.atom ≡ true
   pub stand : (l : Lit) → IsIn l lits → stands_at g (level_count g + 1) l.atom ≡ true
   pub held : cube_holds lits I ≡ true

@@ -181,6 +181,15 @@ literals-agree I C M h a i =
     alike (holds I a) (holds M a)
     (all_at (lit_true M) (map (literal_in I) C) (literal_in I a) h (map_from (literal_in I) C a (holds_at C a i)))
 
+-- the literals' atoms ascend
+atoms-of : (I C : List ℕ) → map (λ (l : Lit). l.atom) (map (literal_in I) C) ≡ C
+atoms-of I [] = refl
+atoms-of I (a ∷ C) = ap (λ xs. a ∷ xs) (atoms-of I C)
+
+pub literals-ascend : (I : List ℕ) (values : List Bool) (lits : List Lit) → lits ≡ map (literal_in I) (true_places values) → lits_ascend lits ≡ true
+literals-ascend I values lits lits_are =
+    ap lits_ascend lits_are ∙ (ap ascends (atoms-of I (true_places values)) ∙ ascends-true_from 0 values)
+
 -- the literals of the atoms on which a move rests are its cube
 pub move-cube : (g : Game) (i : ℕ) (won : List Lit) (M N : List ℕ) (count : ℕ) (marks : List Bool) (lits : List Lit) → IsValid g → 1 ≤ i → i ≤ level_count g + 1
     → IsIn N (moves g i M) → cube_holds won N ≡ true → AreResting g i won N count marks → lits ≡ map (literal_in M) (true_places marks) → IsMoveCube g i M won lits
@@ -190,6 +199,7 @@ move-cube g i won M N count marks lits valid first last move has_won resting lit
     let found = map_at (literal_in M) C l (subst (λ (ls : List Lit). IsIn l ls) lits_are j) in
     holds_from C l.atom (subst (λ (a : ℕ). IsIn a C) (sym (ap (λ (x : Lit). x.atom) found.2)) found.1) in
     record {
+      ascend = literals-ascend M marks lits lits_are;
       on_base = λ l j. resting.outer l.atom (from l j);
       stand = λ l j. resting.stand l.atom (from l j);
       held = subst (λ (ls : List Lit). cube_holds ls M ≡ true) (sym lits_are) (literals-held M C);
@@ -197,12 +207,3 @@ move-cube g i won M N count marks lits valid first last move has_won resting lit
           held-move g i won M N C K valid first last move has_won resting.rests inside
           (literals-agree M C K (subst (λ (ls : List Lit). cube_holds ls K ≡ true) lits_are h));
     }
-
--- the literals' atoms ascend
-atoms-of : (I C : List ℕ) → map (λ (l : Lit). l.atom) (map (literal_in I) C) ≡ C
-atoms-of I [] = refl
-atoms-of I (a ∷ C) = ap (λ xs. a ∷ xs) (atoms-of I C)
-
-pub literals-ascend : (I : List ℕ) (values : List Bool) (lits : List Lit) → lits ≡ map (literal_in I) (true_places values) → lits_ascend lits ≡ true
-literals-ascend I values lits lits_are =
-    ap lits_ascend lits_are ∙ (ap ascends (atoms-of I (true_places values)) ∙ ascends-true_from 0 values)

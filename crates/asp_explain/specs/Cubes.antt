@@ -8,6 +8,7 @@ use Rattle.asp_defs.specs.Interpretations.{holds}
 use Rattle.asp_defs.specs.Games.{base, rules_of, bounds_of, is_subset}
 use Rattle.asp_defs.specs.Values.{moves}
 use Rattle.asp_defs.specs.Entries.{cube_holds, stands_at}
+use Rattle.asp_entry.specs.Cubes.{lits_ascend}
 use Rattle.asp_explain.specs.Resting.{stands_in_literals, RestsOn}
 
 -- a move that has the literals
@@ -16,8 +17,9 @@ pub record HeldMove (g : Game) (i : ℕ) (won : List Lit) (M : List ℕ) : Type 
   pub is_move : IsIn move (moves g i M)
   pub held : cube_holds won move ≡ true
 
--- literals that hold an outer move, and outer moves alone after which some move has the literals `won`
+-- literals, whose atoms ascend, that hold an outer move, and outer moves alone after which some move has the literals `won`
 pub record IsMoveCube (g : Game) (i : ℕ) (M : List ℕ) (won lits : List Lit) : Type 0 where
+  pub ascend : lits_ascend lits ≡ true
   pub on_base : (l : Lit) → IsIn l lits → holds (base g (i - 1)) l.atom ≡ true
   pub stand : (l : Lit) → IsIn l lits → (stands_at g i l.atom || stands_in_literals l.atom won) ≡ true
   pub held : cube_holds lits M ≡ true

@@ -77,7 +77,7 @@ fn resting(
     let mut chosen = marks.copy(alloc)?;
     satisfy(&mut chosen, rules, set, &lower);
     keep_singles(&mut marks, rules, set, &lower, &chosen);
-    // Atoms that were taken before others made them needless are left out now.
+    // What single atoms don't satisfy gets an atom anew; some of these may be needless.
     satisfy(&mut marks, rules, set, &lower);
     Ok(marks)
 }
@@ -103,7 +103,7 @@ fn literals(alloc: Global, atoms: &Bits, set: &Bits) -> Result<Vec<Lit>, NoMemor
 /// holds. Each of its atoms stands in a rule or bound of the level or in `won`.
 ///
 /// `set` is a move of the level after the outer move, and `won` holds it. The time is linear in the size of the level, of
-/// `won` and of the base, but for a heap of the rules with true bodies. `NoMemory`: memory was refused.
+/// `won` and of the number of the game's atoms, but for a heap of the rules with true bodies. `NoMemory`: memory was refused.
 pub fn move_cube(
     alloc: Global,
     game: &Game,

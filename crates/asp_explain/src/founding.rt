@@ -110,8 +110,8 @@ fn take_turn(
     }
 }
 
-/// Founds own atoms by rules whose outer atoms are marked, until no rule founds another one. Of the rules that could be next, one
-/// with the fewest unmarked outer atoms is.
+/// Founds own atoms by rules whose outer atoms are marked, until no rule founds another one. Of the rules that are ready, one
+/// is next that had the fewest unmarked outer atoms when it became ready.
 ///
 /// `NoMemory`: memory was refused; further atoms may be marked.
 pub fn found(

@@ -1,14 +1,13 @@
 //! The cube of a move: outer moves after which a level has a move that a cube of the next level holds.
 //!
-//! A move of a level rests on some of the outer atoms: with these as they are and the others anyhow, the level's own part of
-//! the move stays a move. The fewer they are, the more outer moves the cube answers. So an outer atom is taken only where
-//! the move rests on it:
+//! A move of a level rests on some of the outer atoms: with these as they are, whatever the others are, the level's own part
+//! of the move stays a move. The fewer they are, the more outer moves the cube answers. So few outer atoms are taken:
 //!
 //! - the atoms of `won`
-//! - those of rules that found the own atoms of the move one after another, each time a rule with the fewest atoms that
-//!   aren't taken; where own atoms support each other only together, those of all rules that may support them
+//! - those of rules that found the own atoms of the move one after another, each time a rule that had the fewest
+//!   atoms not taken yet when it became ready; where own atoms support each other only together, those of all rules that may support them
 //! - the atoms of a bound, or one that makes its body false
-//! - an atom of each rule that only an outer atom satisfies, where none that is taken does; those go that turn out needless
+//! - an atom of each rule that only an outer atom satisfies, where none that is taken does; many that turn out needless go
 //!
 //! In reading order:
 //!

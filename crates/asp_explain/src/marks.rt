@@ -9,7 +9,7 @@ use asp_bits::Bits;
 use asp_defs::{Lit, NoMemory};
 use std::alloc::Global;
 
-/// The places of these atoms, which ascend, of so many. `NoMemory`: memory was refused.
+/// The places of these atoms, of so many. `NoMemory`: memory was refused.
 pub fn places(alloc: Global, atoms: &[u32], count: u32) -> Result<Bits, NoMemory>
     requires { IsTrue (are_below count atoms.now) }
     ensures { IfOk result (IsPlaces atoms.now count) }

@@ -136,7 +136,8 @@ impl Waiting {
         Ok(())
     }
 
-    /// The place of a rule that misses no atom, one with the fewest unmarked outer atoms; none where all had their turn.
+    /// The place of a rule that misses no atom, one that had the fewest unmarked outer atoms when it became ready; none where no
+    /// such rule is left.
     pub fn next(&mut self) -> Option<usize> {
         let Reverse((_, place)) = self.ready.pop()?;
         Some(place)

@@ -37,12 +37,13 @@ const VERDICTS: [Row; 9] = [
     ("%@exists {a}. %@constraint :- a, b.", 0b1, "true"),
     ("%@exists {a}. %@constraint", 0b1, "true"),
     ("%@exists {a}.", 0, "true"),
-    // All are broken, and the second has the fewest literals on outer atoms.
+    // The third has no literal on an outer atom, so every move breaks it.
     (
         "%@exists {a}. {b}. %@constraint :- a, b. :- b. :- not c.",
         0b11,
         "false",
     ),
+    // All are broken, and the second has the fewest literals on outer atoms.
     (
         "%@exists {a}. {b}. %@constraint :- a, b. :- b. :- a, b, not c.",
         0b11,
@@ -51,7 +52,9 @@ const VERDICTS: [Row; 9] = [
 ];
 
 /// Which literals are taken.
-const TAKEN: [Row; 6] = [
+const TAKEN: [Row; 8] = [
+    // Where both literals serve as many, that of the least number is.
+    ("%@exists {a}. {b}. %@constraint :- a, b.", 0, "true, not a"),
     // One literal serves both.
     (
         "%@exists {a}. {b}. {c}. %@constraint :- a, c. :- b, c.",
@@ -75,13 +78,19 @@ const TAKEN: [Row; 6] = [
         0,
         "true, not b",
     ),
+    // Where it has none in the constraint, the atom of the earliest base is.
+    (
+        "%@exists {a}. %@forall {b}. %@exists {c}. %@constraint :- a, b.",
+        0,
+        "true, not a",
+    ),
     // The literal on a goes, which was taken first, since that on b serves too.
     (
         "%@exists {a}. %@forall {b}. {c}. %@constraint :- a, b. :- b, c.",
         0,
         "true, not b",
     ),
-    // So it is where another one is in its place for each: the fewest are b and d.
+    // The same along a chain: of a, b, c and d, which are taken first, b and d serve all.
     (
         "%@exists {a}. %@forall {b}. %@exists {c}. %@forall {d}. {e}. %@constraint :- a, b. :- b, c. :- c, d. :- d, e.",
         0,
