@@ -3,8 +3,8 @@
 
     bench/sat.py [PROGRAM]      PROGRAM: the built sat_bench (default: crates/sat_bench/out/sat_bench)
 
-Each formula is put to both programs, one after the other, and their answers are compared. Times are those of the
-processor (user and system), memory is the peak of the resident set as /usr/bin/time tells it, and propagations are
+Each formula is put to sat_bench, to minisat as it comes and to minisat without restarts, one after the other, and their
+answers are compared. Times are those of the processor (user and system), memory is the peak of the resident set as /usr/bin/time tells it, and propagations are
 minisat's own count of propagations and sat_bench's count of placements. Formulas are made from fixed seeds, so that two
 runs compare. A program that takes more than a minute is stopped.
 """
@@ -59,19 +59,6 @@ def chain(atoms, satisfiable):
     return atoms, clauses
 
 
-def parity(atoms, seed):
-    """Sums modulo 2 of three random atoms each, as many as there are atoms."""
-    source = random.Random(f"parity {atoms} {seed}")
-    clauses = []
-    for _ in range(atoms):
-        chosen = source.sample(range(1, atoms + 1), 3)
-        odd = source.randrange(2)
-        for bits in range(8):
-            if bin(bits).count("1") % 2 != odd:
-                clauses.append([-atom if bits >> place & 1 else atom for place, atom in enumerate(chosen)])
-    return atoms, clauses
-
-
 def parity_chain(atoms, seed):
     """Two chains of sums modulo 2 over the same atoms, in two orders, that end in different values."""
     source = random.Random(f"parity chain {atoms} {seed}")
@@ -95,17 +82,57 @@ def parity_chain(atoms, seed):
     return used, clauses
 
 
+def colouring(nodes, seed):
+    """Three colours for a random graph with 2.3 edges a node, so that neighbours differ."""
+    source = random.Random(f"colouring {nodes} {seed}")
+    edges = set()
+    while len(edges) < round(2.3 * nodes):
+        first, second = source.sample(range(nodes), 2)
+        edges.add((min(first, second), max(first, second)))
+    clauses = [[3 * node + colour for colour in (1, 2, 3)] for node in range(nodes)]
+    for first, second in sorted(edges):
+        clauses.extend([-(3 * first + colour), -(3 * second + colour)] for colour in (1, 2, 3))
+    return 3 * nodes, clauses
+
+
+def counter(bits, steps, seed):
+    """A counter of some bits that at each step adds one or keeps its value, from a random value: whether it reaches another,
+    drawn as one that it can reach or one behind, in so many steps."""
+    source = random.Random(f"counter {bits} {steps} {seed}")
+    start = source.randrange(2 ** bits - 2 * steps)
+    end = start + (steps if seed % 2 else steps + 1)
+    clauses = []
+
+    def bit(step, place):
+        return step * 2 * bits + place + 1
+
+    def carry(step, place):
+        return step * 2 * bits + bits + place + 1
+
+    for place in range(bits):
+        clauses.append([bit(0, place) if start >> place & 1 else -bit(0, place)])
+        clauses.append([bit(steps, place) if end >> place & 1 else -bit(steps, place)])
+    for step in range(steps):
+        for place in range(bits):
+            now, into, then = bit(step, place), carry(step, place), bit(step + 1, place)
+            clauses.extend([[-now, -into, -then], [-now, into, then], [now, -into, then], [now, into, -then]])
+            if place + 1 < bits:
+                out = carry(step, place + 1)
+                clauses.extend([[-now, -into, out], [now, -out], [into, -out]])
+    return (steps + 1) * 2 * bits, clauses
+
+
 def families():
     """Each row of the table: a name and its formulas."""
-    for atoms in (100, 150, 200):
+    for atoms in (150, 200, 225, 250):
         yield f"random 3-SAT, {atoms} atoms", [random_3sat(atoms, seed) for seed in range(10)]
     for holes in (7, 8, 9):
         yield f"{holes + 1} pigeons, {holes} holes", [pigeons(holes)]
     yield "chain, 200,000 atoms", [chain(200_000, True), chain(200_000, False)]
-    for atoms in (20, 25, 30):
-        yield f"sums of three, {atoms} atoms", [parity(atoms, seed) for seed in range(5)]
-    for atoms in (20, 25, 30):
-        yield f"two chains of sums, {atoms} atoms", [parity_chain(atoms, seed) for seed in range(5)]
+    for atoms in (25, 30):
+        yield f"two chains of sums, {atoms} atoms", [parity_chain(atoms, seed) for seed in range(10)]
+    yield "counter, 20 bits, 40 steps", [counter(20, 40, seed) for seed in range(10)]
+    yield "3 colours, 400 nodes", [colouring(400, seed) for seed in range(10)]
 
 
 def write(path, formula):
@@ -136,16 +163,16 @@ def ours(program, path):
     return run([program], path, [r"placements (\d+)", r"decisions (\d+)", r"conflicts (\d+)"])
 
 
-def minisat(path):
-    return run(["minisat", "-verb=1"], path, [r"propagations\s*:\s*(\d+)", r"decisions\s*:\s*(\d+)", r"conflicts\s*:\s*(\d+)"])
+def minisat(path, *options):
+    return run(["minisat", "-verb=1", *options], path, [r"propagations\s*:\s*(\d+)", r"decisions\s*:\s*(\d+)", r"conflicts\s*:\s*(\d+)"])
 
 
 def ratio(values):
-    """The median, with the least and the greatest where there are several."""
-    values = [value for value in values if value is not None]
+    """The geometric mean, with the least and the greatest where there are several."""
+    values = [value for value in values if value]
     if not values:
         return "-"
-    middle = f"{statistics.median(values):.2f}"
+    middle = f"{statistics.geometric_mean(values):.2f}"
     return middle if len(values) == 1 else f"{middle} ({min(values):.2f} to {max(values):.2f})"
 
 
@@ -153,20 +180,20 @@ def quotient(above, below):
     return above / below if above is not None and below else None
 
 
-def row(name, pairs):
-    ended = [(mine, theirs) for mine, theirs in pairs if mine.answer and theirs.answer]
+def row(name, runs):
+    ended = [(mine, theirs, plain) for mine, theirs, plain in runs if mine.answer and theirs.answer and plain.answer]
     # Below 20 milliseconds a time says little.
-    timed = [(mine, theirs) for mine, theirs in ended if max(mine.seconds, theirs.seconds) >= 0.02]
+    timed = [run for run in ended if max(each.seconds for each in run) >= 0.02]
     cells = [
         name,
-        f"{len(ended)} of {len(pairs)}",
-        f"{statistics.median(mine.seconds for mine, _ in pairs):.3f}",
-        f"{statistics.median(theirs.seconds for _, theirs in pairs):.3f}",
-        ratio([quotient(mine.seconds, max(theirs.seconds, 0.001)) for mine, theirs in timed]),
+        f"{len(ended)} of {len(runs)}",
+        *(f"{statistics.median(each.seconds for each in column):.3f}" for column in zip(*runs)),
+        ratio([quotient(mine.seconds, max(theirs.seconds, 0.001)) for mine, theirs, _ in timed]),
+        ratio([quotient(mine.seconds, max(plain.seconds, 0.001)) for mine, _, plain in timed]),
         ratio([quotient(mine.propagations / max(mine.seconds, 0.001), theirs.propagations / max(theirs.seconds, 0.001))
-               for mine, theirs in timed if mine.propagations and theirs.propagations]),
-        ratio([quotient(mine.conflicts, theirs.conflicts) for mine, theirs in ended]),
-        ratio([quotient(mine.kilobytes, theirs.kilobytes) for mine, theirs in ended]),
+               for mine, theirs, _ in timed if mine.propagations and theirs.propagations]),
+        ratio([quotient(mine.conflicts, theirs.conflicts) for mine, theirs, _ in ended if theirs.conflicts]),
+        ratio([quotient(mine.kilobytes, theirs.kilobytes) for mine, theirs, _ in ended]),
     ]
     return "| " + " | ".join(cells) + " |"
 
@@ -180,21 +207,22 @@ def main():
     if not program.is_file():
         print(f"skipped: {program} isn't built (rt run in crates/sat_bench builds it)")
         return 0
-    print("| formulas | ended in both | seconds | minisat's | time, ratio | propagations a second, ratio | conflicts, ratio | memory, ratio |")
-    print("|---|---|---|---|---|---|---|---|")
+    print("| formulas | ended in all | seconds | minisat's | without restarts | time, ratio | to that without restarts | propagations a second, ratio | conflicts, ratio | memory, ratio |")
+    print("|---|---|---|---|---|---|---|---|---|---|")
     wrong = 0
     with tempfile.TemporaryDirectory() as folder:
         path = Path(folder) / "formula.cnf"
         for name, formulas in families():
-            pairs = []
+            runs = []
             for formula in formulas:
                 write(path, formula)
                 mine, theirs = ours(str(program), path), minisat(path)
+                plain = minisat(path, "-rfirst=2000000000", "-no-luby")
                 if mine.answer and theirs.answer and mine.answer != theirs.answer:
                     print(f"{name}: {mine.answer}, minisat says {theirs.answer}", file=sys.stderr)
                     wrong += 1
-                pairs.append((mine, theirs))
-            print(row(name, pairs), flush=True)
+                runs.append((mine, theirs, plain))
+            print(row(name, runs), flush=True)
     return 1 if wrong else 0
 
 
