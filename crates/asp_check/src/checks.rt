@@ -10,7 +10,7 @@ ghost use Rattle.asp_check.specs.Refusals.{IsRefusal};
 use crate::counts::{most_arguments, most_literals, most_variables};
 use asp_checked::Checked;
 use asp_defs::{NoMemory, Program, Rule, Var, Which};
-use asp_safety::safety::{first_unsafe, shown};
+use asp_safety::{first_unsafe, shown};
 use std::alloc::{AllocError, Global};
 use thiserror::Error;
 

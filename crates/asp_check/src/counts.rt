@@ -10,8 +10,7 @@ ghost use Rattle.asp_defs.specs.Limits.{
 ghost use Rattle.asp_check.specs.Counts.{arguments_with, capped};
 
 use asp_defs::{Element, Head, NoMemory, Rule};
-use asp_safety::safety::count_distinct;
-use asp_safety::variables::variables;
+use asp_safety::{count_distinct, variables};
 use asp_walk::{Atoms, Terms};
 use std::alloc::Global;
 

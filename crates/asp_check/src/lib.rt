@@ -9,5 +9,4 @@ mod counts;
 pub mod laws;
 
 pub use asp_checked::Checked;
-pub use asp_safety::variables::{Variable, variable_of};
 pub use checks::{CheckFault, check};

@@ -21,7 +21,7 @@ use Rattle.asp_defs.specs.Instances.{atom_variables, literal_variables, first_oc
 use Rattle.asp_defs.specs.BoundInstances.{bound_variables, own_count, counted_instance, element_terms, bound_instance, head_bounds, rule_bounds}
 use Rattle.asp_defs.specs.Limits.{variable_count}
 use Rattle.asp_defs.proofs.Lists.{both, all_at, append_at, append_left, append_right}
-use Rattle.asp_check.specs.Condition.{is_single_atom, is_single_literal, is_single_element}
+use Rattle.asp_checked.specs.Condition.{is_single_atom, is_single_literal, is_single_element}
 use Rattle.asp_walk.proofs.Lists.{flat_from}
 use Rattle.asp_atoms.specs.declared.vocabularies.Vocabulary.{Vocabulary}
 use Rattle.asp_atoms.specs.Vocabularies.{unnumbered}

@@ -23,7 +23,7 @@ use Rattle.asp_defs.proofs.Lists.{and_true, any_at, filter_at, append_at, map_at
 use Rattle.asp_safety.proofs.Occurrences.{occurrences_few}
 use Rattle.asp_template.proofs.Occurrences.{few_among}
 use Rattle.asp_defs.proofs.TextRefutations.{clash}
-use Rattle.asp_check.specs.Condition.{is_single, is_single_literal, has_intervals_in_facts}
+use Rattle.asp_checked.specs.Condition.{is_single, is_single_literal, has_intervals_in_facts}
 use Rattle.asp_atoms.proofs.Orders.{predicate_exact}
 use Rattle.asp_template.proofs.Parts.{make_predicate}
 use Rattle.asp_ground.proofs.RuleSchemas.{Written}

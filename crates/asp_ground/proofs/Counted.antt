@@ -25,7 +25,7 @@ use Rattle.asp_defs.specs.Safety.{all_rules}
 use Rattle.asp_defs.specs.Limits.{variable_count}
 use Rattle.asp_defs.specs.Sizes.{level_instances, instance_total}
 use Rattle.asp_defs.proofs.Lists.{append_at, append_left, append_right, map_at}
-use Rattle.asp_check.specs.Condition.{IsCheckable}
+use Rattle.asp_checked.specs.Condition.{IsCheckable}
 use Rattle.asp_walk.proofs.Lists.{flat_at, flat_from}
 use Rattle.asp_defs.specs.Checks.{is_checked}
 use Rattle.asp_atoms.specs.declared.vocabularies.Vocabulary.{Vocabulary}

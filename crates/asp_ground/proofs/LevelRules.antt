@@ -23,7 +23,7 @@ use Rattle.asp_defs.specs.Games.{level_ground, level_bounds, within, rule_atoms,
 use Rattle.asp_defs.specs.Safety.{shown_number}
 use Rattle.asp_defs.proofs.Lists.{all_from, map_at, append_at}
 use Rattle.asp_defs.proofs.TextRefutations.{clash}
-use Rattle.asp_check.specs.Condition.{has_intervals_in_facts}
+use Rattle.asp_checked.specs.Condition.{has_intervals_in_facts}
 use Rattle.asp_walk.proofs.Lists.{flat_at, flat_from, get_is_in}
 use Rattle.asp_safety.proofs.Places.{get_seam}
 use Rattle.asp_atoms.proofs.Orders.{const_lawful, predicate_lawful}

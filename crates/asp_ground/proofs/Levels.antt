@@ -28,7 +28,7 @@ use Rattle.asp_defs.specs.Sizes.{constant_total, atom_total, instance_total, gam
 use Rattle.asp_defs.specs.Checks.{safety_refusal, check_refusal, is_checked}
 use Rattle.asp_defs.proofs.Lists.{all_at, append_at, map_at, map_from}
 use Rattle.asp_defs.proofs.TextRefutations.{clash}
-use Rattle.asp_check.specs.Condition.{IsCheckable, has_intervals_in_facts}
+use Rattle.asp_checked.specs.Condition.{IsCheckable, has_intervals_in_facts}
 use Rattle.asp_walk.proofs.Lists.{flat_at, flat_from}
 use Rattle.asp_atoms.specs.Ascending.{Ascends}
 use Rattle.asp_atoms.specs.Vocabularies.{const_rank, vocabulary_of}

@@ -11,7 +11,7 @@ use Rattle.asp_defs.specs.declared.syntax.Element.{Element}
 use Rattle.asp_defs.specs.Lists.{numbers_from}
 use Rattle.asp_defs.specs.Bases.{product}
 use Rattle.asp_atoms.specs.Counts.{shown}
-use Rattle.asp_safety.specs.declared.variables.Variable.{Variable}
+use Rattle.asp_safety.specs.declared.variable.Variable.{Variable}
 use Rattle.asp_safety.specs.Variables.{term_of}
 use Rattle.asp_atoms.specs.declared.vocabularies.Vocabulary.{Vocabulary}
 use Rattle.asp_template.specs.declared.template.AtomTemplate.{AtomTemplate}

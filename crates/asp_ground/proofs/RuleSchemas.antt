@@ -21,7 +21,7 @@ use Rattle.asp_defs.specs.ConstraintPart.{is_no_head}
 use Rattle.asp_defs.specs.Games.{is_formed, is_constraint}
 use Rattle.asp_defs.proofs.Lists.{both, and_true, all_at, all_from, append_at, append_left, append_right, map_at, map_from}
 use Rattle.asp_defs.proofs.TextRefutations.{clash}
-use Rattle.asp_check.specs.Condition.{is_single, is_single_atom, is_single_literal, is_single_element, is_single_head, has_intervals_in_facts}
+use Rattle.asp_checked.specs.Condition.{is_single, is_single_atom, is_single_literal, is_single_element, is_single_head, has_intervals_in_facts}
 use Rattle.asp_walk.proofs.Lists.{flat_at, flat_from}
 use Rattle.asp_template.proofs.Parts.{make_predicate, make_rule, with_args, disjunctive_written, element_written}
 use Rattle.asp_template.proofs.Products.{tuple_length, tuple_member}

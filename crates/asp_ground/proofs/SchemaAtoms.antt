@@ -20,7 +20,7 @@ use Rattle.asp_defs.specs.Safety.{is_variable_of}
 use Rattle.asp_defs.specs.Games.{within, rule_atoms}
 use Rattle.asp_defs.proofs.Lists.{all_at, append_at, map_at, map_from}
 use Rattle.asp_defs.proofs.TextRefutations.{clash}
-use Rattle.asp_check.specs.Condition.{is_single, is_single_atom, is_single_literal}
+use Rattle.asp_checked.specs.Condition.{is_single, is_single_atom, is_single_literal}
 use Rattle.asp_walk.proofs.Lists.{flat_at, flat_from, get_is_in}
 use Rattle.asp_defs.proofs.SafetyLaws.{itself as same_self}
 use Rattle.asp_template.proofs.Parts.{make_predicate}

@@ -19,7 +19,7 @@ use Rattle.asp_defs.specs.Bounds.{bound_atoms}
 use Rattle.asp_defs.specs.Games.{game_of, level_count, level_ground, level_bounds, base, rules_of, bounds_of, within, rule_atoms, is_constraint, IsValid}
 use Rattle.asp_defs.proofs.Lists.{all_at}
 use Rattle.asp_defs.proofs.TextRefutations.{clash}
-use Rattle.asp_check.specs.Condition.{IsCheckable, has_intervals_in_facts}
+use Rattle.asp_checked.specs.Condition.{IsCheckable, has_intervals_in_facts}
 use Rattle.asp_atoms.proofs.Assembling.{base_atoms_ascend}
 use Rattle.asp_atoms.proofs.Counting.{within_limit, first_none, second_none, unmapped, no_one}
 use Rattle.asp_ground.proofs.BaseAtoms.{base_numbers, bases_ascend, bases_nested, bases_long, base_at, first_empty, last_long, last_below}

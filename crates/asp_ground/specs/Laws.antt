@@ -10,7 +10,7 @@ use Rattle.asp_defs.specs.Bases.{atom_number, bases_of}
 use Rattle.asp_defs.specs.Consistency.{negated_name}
 use Rattle.asp_defs.specs.Games.{game_of, level_count, IsValid}
 use Rattle.asp_defs.specs.Values.{moves}
-use Rattle.asp_check.specs.Condition.{IsCheckable}
+use Rattle.asp_checked.specs.Condition.{IsCheckable}
 
 -- a program that passes all checks and keeps the limits has a valid game
 abbrev pub TextGamesAreValid : Type 0

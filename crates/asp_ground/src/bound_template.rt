@@ -1,6 +1,6 @@
 //! Choices with a bound in the form in which they are instantiated.
 use asp_defs::List;
-use asp_template::template::{AtomTemplate, Template};
+use asp_template::{AtomTemplate, Template};
 
 /// An element of a choice with a bound.
 #[derive(Drop)]

@@ -11,11 +11,10 @@ use crate::bound_template::{BoundTemplate, ElementTemplate};
 use crate::level::universe_of;
 use asp_atoms::Vocabulary;
 use asp_defs::{Bound, Counted, Element, Head, List, Literal, NoMemory, Rule};
-use asp_template::compile::{atom_template, compile};
-use asp_template::domains::{Domains, domain_at};
-use asp_template::instances::{are_true, number_at, numbers_at};
-use asp_template::ranks::capped;
-use asp_template::variables::{bound_variables, disjunctive_variables};
+use asp_template::{
+    Domains, are_true, atom_template, bound_variables, capped, compile, disjunctive_variables,
+    domain_at, number_at, numbers_at,
+};
 use std::alloc::Global;
 
 /// The counted term of an element under ranks of its variables.

@@ -15,9 +15,9 @@ use crate::constants::{Constants, add_rules};
 use crate::level::universe_of;
 use asp_atoms::counts::{power, product, sum};
 use asp_atoms::{Vocabulary, interval_length};
-use asp_check::Checked;
+use asp_checked::Checked;
 use asp_defs::{Atom, Bases, Element, Head, List, Literal, Rule, Term};
-use asp_template::variables::{disjunctive_variables, element_variables};
+use asp_template::{disjunctive_variables, element_variables};
 
 /// For how many terms an argument stands.
 fn choice_count(term: &Term) -> u64

@@ -18,7 +18,7 @@ use crate::consistency::constraints;
 use crate::counts::instance_count;
 use crate::level::level_rules;
 use asp_atoms::{Vocabulary, program_signatures, vocabulary};
-use asp_check::Checked;
+use asp_checked::Checked;
 use asp_defs::{
     Bases, Bound, Game, GroundRule, List, NoMemory, Part, Program, Quant, Rule, SizeFault, Which,
 };

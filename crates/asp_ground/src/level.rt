@@ -6,7 +6,7 @@ ghost use Rattle.asp_template.specs.Compiled.{compiled_instances};
 
 use asp_atoms::Vocabulary;
 use asp_defs::{GroundRule, List, NoMemory, Rule};
-use asp_template::rules::add_rules;
+use asp_template::add_rules;
 use std::alloc::Global;
 
 /// The ranks of the universe of a level, and none past the last level.

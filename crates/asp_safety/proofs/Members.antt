@@ -8,8 +8,8 @@ use Rattle.asp_defs.specs.Instances.{same_variable}
 use Rattle.asp_defs.specs.Safety.{is_variable_of}
 use Rattle.asp_defs.proofs.Lists.{any_at, any_from}
 use Rattle.asp_defs.proofs.SafetyLaws.{equal}
-use Rattle.asp_safety.specs.declared.variables.Variable.{Variable}
-use Rattle.asp_safety.specs.declared.variables.Variable.TheVariants as variants
+use Rattle.asp_safety.specs.declared.variable.Variable.{Variable}
+use Rattle.asp_safety.specs.declared.variable.Variable.TheVariants as variants
 use Rattle.asp_safety.specs.Variables.{term_of}
 use Rattle.asp_safety.specs.Closure.{Within}
 

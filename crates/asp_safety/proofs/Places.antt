@@ -8,8 +8,8 @@ use Rattle.asp_defs.specs.Lists.{IsIn}
 use Rattle.asp_defs.specs.Instances.{same_variable}
 use Rattle.asp_defs.proofs.Lists.{true_or_false}
 use Rattle.asp_defs.proofs.TextRefutations.{clash}
-use Rattle.asp_safety.specs.declared.variables.Variable.{Variable}
-use Rattle.asp_safety.specs.contracts.variables.VariablePartialEq.TheImpl.{eq-value}
+use Rattle.asp_safety.specs.declared.variable.Variable.{Variable}
+use Rattle.asp_safety.specs.contracts.variable.VariablePartialEq.TheImpl.{eq-value}
 use Rattle.std.proofs.lemmas.List.{length-map, get_or_default}
 use Rattle.asp_safety.specs.declared.bindings.Link.{Link}
 use Rattle.asp_safety.specs.Bindings.{link_of, links_of}

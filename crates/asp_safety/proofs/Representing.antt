@@ -9,9 +9,9 @@ use Rattle.asp_defs.specs.Instances.{same_variable}
 use Rattle.asp_defs.specs.Safety.{is_variable_of}
 use Rattle.asp_defs.proofs.Lists.{true_or_false, not_true, not_false, filter_at, filter_from, append_at, append_left, append_right, map_at, map_from}
 use Rattle.asp_defs.proofs.TextRefutations.{clash}
-use Rattle.asp_safety.specs.declared.variables.Variable.{Variable}
+use Rattle.asp_safety.specs.declared.variable.Variable.{Variable}
 use Rattle.asp_safety.specs.declared.bindings.Link.{Link}
-use Rattle.asp_safety.specs.contracts.variables.VariablePartialEq.TheImpl.{eq-value}
+use Rattle.asp_safety.specs.contracts.variable.VariablePartialEq.TheImpl.{eq-value}
 use Rattle.asp_safety.specs.Variables.{term_of, terms_of}
 use Rattle.asp_safety.specs.Bindings.{link_of, links_of}
 use Rattle.asp_safety.specs.Closure.{Within, IsSpread, IsLeast}

@@ -14,7 +14,7 @@ use Rattle.asp_defs.specs.TextLaws.{IsClosed}
 use Rattle.asp_defs.proofs.Lists.{both, and_true, append_at, append_left, append_right, map_at, map_from}
 use Rattle.asp_defs.proofs.SafetyLaws.{itself as same_self, brought, brings, safe_variables_are_least}
 use Rattle.asp_defs.proofs.TextRefutations.{clash}
-use Rattle.asp_safety.specs.declared.variables.Variable.{Variable}
+use Rattle.asp_safety.specs.declared.variable.Variable.{Variable}
 use Rattle.asp_safety.specs.Variables.{term_of, terms_of}
 use Rattle.asp_safety.specs.Bindings.{bound_alone, pairs, literal_links}
 use Rattle.asp_safety.specs.Closure.{Within, IsSpread, IsLeast}

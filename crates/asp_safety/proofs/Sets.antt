@@ -7,9 +7,9 @@ use Rattle.asp_defs.specs.Lists.{IsIn}
 use Rattle.asp_defs.specs.Instances.{same_variable}
 use Rattle.asp_defs.specs.Safety.{is_variable_of}
 use Rattle.asp_defs.proofs.Lists.{true_or_false, not_true, map_at}
-use Rattle.asp_safety.specs.declared.variables.Variable.{Variable}
-use Rattle.asp_safety.specs.declared.variables.Variable.TheVariants as variants
-use Rattle.asp_safety.specs.contracts.variables.VariablePartialEq.TheImpl.{eq-value}
+use Rattle.asp_safety.specs.declared.variable.Variable.{Variable}
+use Rattle.asp_safety.specs.declared.variable.Variable.TheVariants as variants
+use Rattle.asp_safety.specs.contracts.variable.VariablePartialEq.TheImpl.{eq-value}
 use Rattle.asp_safety.specs.Variables.{term_of, terms_of}
 use Rattle.asp_safety.specs.Closure.{Within, Settles}
 use Rattle.asp_defs.proofs.SafetyLaws.{equal}

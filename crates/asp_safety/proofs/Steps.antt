@@ -2,7 +2,7 @@
 use Rattle.std.proofs.Common.{ℕ, ◌≡◌, ◌+◌, ◌<◌, sym, ◌∙◌, ap, subst, refl, List, [], ◌∷◌, ◌++◌, map, length, get_or, take, arith}
 use Rattle.std.proofs.lemmas.List.{take_more, map-append}
 use Rattle.asp_defs.specs.declared.syntax.Term.{Term}
-use Rattle.asp_safety.specs.declared.variables.Variable.{Variable}
+use Rattle.asp_safety.specs.declared.variable.Variable.{Variable}
 use Rattle.asp_safety.specs.Variables.{term_of, terms_of}
 use Rattle.asp_safety.specs.Closure.{Settles, Gathers}
 use Rattle.asp_safety.proofs.Spreading.{gathers_more}

@@ -7,7 +7,7 @@ use Rattle.asp_defs.specs.declared.syntax.Literal.{Literal}
 use Rattle.asp_defs.specs.declared.syntax.Rule.{Rule}
 use Rattle.asp_defs.specs.Instances.{literal_variables}
 use Rattle.asp_defs.specs.Safety.{is_variable_of, safe_variables, unbound, head_unsafe, rule_unsafe}
-use Rattle.asp_safety.specs.declared.variables.Variable.{Variable}
+use Rattle.asp_safety.specs.declared.variable.Variable.{Variable}
 use Rattle.asp_safety.specs.Variables.{term_of, terms_of}
 use Rattle.asp_safety.specs.Safe.{Agree, AgreeOn}
 use Rattle.asp_safety.proofs.Safe.{filter_agrees}

@@ -4,7 +4,7 @@ use Rattle.std.specs.Map.{lookup}
 use Rattle.asp_defs.specs.declared.syntax.Term.{Term}
 use Rattle.asp_defs.specs.declared.syntax.Term.TheVariants.{Sym}
 use Rattle.asp_defs.specs.Instances.{same_variable}
-use Rattle.asp_safety.specs.declared.variables.Variable.{Variable}
+use Rattle.asp_safety.specs.declared.variable.Variable.{Variable}
 use Rattle.asp_safety.specs.Variables.{term_of}
 
 -- how many places there are up to a place, if there is one

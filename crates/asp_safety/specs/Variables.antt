@@ -1,7 +1,7 @@
 -- The checker's variables as terms.
 use Rattle.std.specs.Prelude.{List, map}
-use Rattle.asp_safety.specs.declared.variables.Variable.{Variable}
-use Rattle.asp_safety.specs.declared.variables.Variable.TheVariants as variants
+use Rattle.asp_safety.specs.declared.variable.Variable.{Variable}
+use Rattle.asp_safety.specs.declared.variable.Variable.TheVariants as variants
 use Rattle.asp_defs.specs.declared.syntax.Term.{Term}
 use Rattle.asp_defs.specs.declared.syntax.Term.TheVariants.{Var, Anon}
 

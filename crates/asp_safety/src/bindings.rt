@@ -6,7 +6,7 @@ ghost use Rattle.asp_defs.specs.declared.syntax.Literal.TheVariants.{Cmp};
 ghost use Rattle.asp_safety.specs.Variables.{term_of, terms_of};
 ghost use Rattle.asp_safety.specs.Bindings.{bound_alone, links_of, literal_links};
 
-use crate::variables::{Variable, add_variables, variable_of};
+use crate::variable::{Variable, add_variables, variable_of};
 use asp_defs::{Literal, NoMemory, Op, Term};
 use asp_walk::Terms;
 

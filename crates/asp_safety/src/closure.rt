@@ -9,7 +9,7 @@ ghost use Rattle.asp_safety.specs.Index.{IsIndexOf};
 
 use crate::bindings::Link;
 use crate::index::{Index, index_of, last_from};
-use crate::variables::Variable;
+use crate::variable::Variable;
 use asp_defs::NoMemory;
 use std::alloc::Global;
 use std::collections::HashSet;

@@ -5,7 +5,7 @@ ghost use Rattle.asp_safety.specs.Bindings.{links_of};
 ghost use Rattle.asp_safety.specs.Index.{last_of, IsIndexOf};
 
 use crate::bindings::Link;
-use crate::variables::Variable;
+use crate::variable::Variable;
 use asp_defs::NoMemory;
 use std::alloc::Global;
 use std::collections::HashMap;

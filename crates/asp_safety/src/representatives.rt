@@ -10,7 +10,7 @@ ghost use Rattle.asp_safety.specs.Representatives.{IsSymmetric, IsRepresented, R
 use crate::bindings::{Link, add_both};
 use crate::closure::reached;
 use crate::index::{Index, index_of};
-use crate::variables::Variable;
+use crate::variable::Variable;
 use asp_defs::NoMemory;
 use std::alloc::Global;
 use std::collections::HashMap;

@@ -23,7 +23,7 @@ ghost use Rattle.asp_safety.specs.Safe.{AgreeOn, Agree, element_unsafe};
 use crate::bindings::add_bindings;
 use crate::closure::{close, has, settle_all};
 use crate::representatives::{add_representatives, representatives_of};
-use crate::variables::{Variable, variables};
+use crate::variable::{Variable, variables};
 use asp_defs::{Element, Head, Literal, Name, NoMemory, Rule, Var};
 use asp_walk::Terms;
 use std::alloc::Global;

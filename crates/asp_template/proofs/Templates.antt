@@ -13,7 +13,7 @@ use Rattle.asp_atoms.specs.declared.vocabularies.Vocabulary.{Vocabulary}
 use Rattle.asp_template.specs.declared.template.AtomTemplate.{AtomTemplate}
 use Rattle.asp_template.specs.declared.template.Comparison.{Comparison}
 use Rattle.asp_template.specs.declared.template.Template.{Template}
-use Rattle.asp_safety.specs.declared.variables.Variable.{Variable}
+use Rattle.asp_safety.specs.declared.variable.Variable.{Variable}
 use Rattle.asp_template.specs.Ranks.{capped}
 use Rattle.asp_safety.specs.Variables.{term_of}
 use Rattle.asp_template.specs.Variables.{disjunctive_variables, element_variables, found_disjunctive, found_element}

@@ -6,7 +6,7 @@ ghost use Rattle.asp_atoms.specs.Ascending.{Ascends};
 ghost use Rattle.asp_template.specs.Ranks.{IsOrdered};
 ghost use Rattle.asp_template.specs.Compiled.{argument_ranks, fact_template, fact_instances};
 
-use crate::compile::{bare, single};
+use crate::compiler::{bare, single};
 use crate::domains::Domains;
 use crate::instances::add_all;
 use crate::ranks::{capped, first_of, rank_of};

@@ -6,15 +6,23 @@
 //! digits, and constants compare as their ranks do.
 //!
 //! In reading order: `template` (compiled rules), `ranks` (where constants and predicates stand), `variables` (those of
-//! a rule, each once), `compile` (a rule's template), `domains` (what its variables run through), `instances` (a template
+//! a rule, each once), `compiler` (a rule's template), `domains` (what its variables run through), `instances` (a template
 //! under all ranks), `facts` (facts with intervals), `rules` (the instances of rules).
 #![tactic(auto)]
 
-pub mod compile;
-pub mod domains;
+mod compiler;
+mod domains;
 mod facts;
-pub mod instances;
-pub mod ranks;
-pub mod rules;
-pub mod template;
-pub mod variables;
+mod instances;
+mod ranks;
+mod rules;
+mod template;
+mod variables;
+
+pub use compiler::{atom_template, compile};
+pub use domains::{Domains, domain_at};
+pub use instances::{are_true, number_at, numbers_at};
+pub use ranks::capped;
+pub use rules::add_rules;
+pub use template::{AtomTemplate, Template};
+pub use variables::{bound_variables, disjunctive_variables, element_variables};

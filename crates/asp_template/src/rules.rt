@@ -5,7 +5,7 @@ ghost use Rattle.asp_template.specs.Ranks.{IsOrdered};
 ghost use Rattle.asp_template.specs.Variables.{found_disjunctive, found_element};
 ghost use Rattle.asp_template.specs.Compiled.{schema_instances, disjunctive_instances, compiled_instances};
 
-use crate::compile::{atom_template, atom_templates, compile, single};
+use crate::compiler::{atom_template, atom_templates, compile, single};
 use crate::domains::Domains;
 use crate::facts::add_fact;
 use crate::instances::add_all;

@@ -9,7 +9,7 @@ ghost use Rattle.asp_template.specs.Variables.{with_variable, disjunctive_variab
 
 use arrayvec::ArrayVec;
 use asp_defs::{Atom, Element, Literal, Term};
-use asp_safety::variables::{Variable, variable_of};
+use asp_safety::{Variable, variable_of};
 use asp_walk::Terms;
 
 /// Room for one more variable than a checked rule has at most.

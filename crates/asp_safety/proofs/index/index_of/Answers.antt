@@ -1,5 +1,5 @@
 use Rattle.std.proofs.Common.{◌+◌, ℕ, List, [], Option, sym, subst, arith}
-use Rattle.asp_safety.specs.declared.variables.Variable.{Variable}
+use Rattle.asp_safety.specs.declared.variable.Variable.{Variable}
 use Rattle.asp_safety.specs.Bindings.{links_of}
 use Rattle.asp_safety.specs.Index.{IsIndexOf}
 use Rattle.asp_safety.proofs.Places.{index_none, index_step}

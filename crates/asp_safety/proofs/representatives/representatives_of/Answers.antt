@@ -1,6 +1,6 @@
 use Rattle.std.proofs.Common.{List, [], sym, subst, arith}
 use Rattle.std.proofs.lemmas.List.{take_all}
-use Rattle.asp_safety.specs.declared.variables.Variable.{Variable}
+use Rattle.asp_safety.specs.declared.variable.Variable.{Variable}
 use Rattle.asp_safety.specs.declared.bindings.Link.{Link}
 use Rattle.asp_safety.specs.Bindings.{links_of}
 use Rattle.asp_safety.specs.Representatives.{RepresentSome}

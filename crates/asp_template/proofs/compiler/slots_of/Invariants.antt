@@ -1,7 +1,7 @@
 use Rattle.std.proofs.Common.{◌≡◌, map, take}
 use Rattle.asp_safety.specs.Variables.{term_of}
 use Rattle.asp_template.specs.Compiled.{slot_of}
-use Rattle.asp_template.proofs.compile.slots_of.Given as goal
+use Rattle.asp_template.proofs.compiler.slots_of.Given as goal
 
 abbrev pub invariant-loop-term : goal.invariant-loop-term
 invariant-loop-term l =

@@ -2,7 +2,7 @@ use Rattle.std.proofs.Common.{map, arith}
 use Rattle.asp_safety.specs.Variables.{term_of}
 use Rattle.asp_template.specs.Compiled.{slot_of}
 use Rattle.asp_template.proofs.Steps.{maps_item, maps_all}
-use Rattle.asp_template.proofs.compile.slots_of.Goals as goal
+use Rattle.asp_template.proofs.compiler.slots_of.Goals as goal
 
 pub loop-term-preserved : goal.loop-term-preserved
 loop-term-preserved c =

@@ -2,7 +2,7 @@ use Rattle.std.proofs.Common.{sym, arith}
 use Rattle.asp_defs.specs.Instances.{same_variable}
 use Rattle.asp_safety.specs.Variables.{term_of}
 use Rattle.asp_template.proofs.Steps.{mapped_place, mapped_none}
-use Rattle.asp_template.proofs.compile.place_of.Goals as goal
+use Rattle.asp_template.proofs.compiler.place_of.Goals as goal
 
 pub returns-then-is_same : goal.returns-then-is_same
 returns-then-is_same c =

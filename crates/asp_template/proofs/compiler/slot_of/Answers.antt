@@ -5,7 +5,7 @@ use Rattle.asp_safety.specs.Variables.{term_of}
 use Rattle.asp_template.specs.Ranks.{rank_of}
 use Rattle.asp_template.specs.Compiled.{slot_of}
 use Rattle.asp_template.proofs.Integers.{passed}
-use Rattle.asp_template.proofs.compile.slot_of.Goals as goal
+use Rattle.asp_template.proofs.compiler.slot_of.Goals as goal
 
 pub returns-in-Int : goal.returns-in-Int
 returns-in-Int c =

@@ -1,8 +1,8 @@
 use Rattle.std.proofs.Common.{ℕ, ◌≡◌, ◌<◌, false, get_or}
 use Rattle.asp_defs.specs.Instances.{same_variable}
-use Rattle.asp_safety.specs.declared.variables.Variable.{Variable}
+use Rattle.asp_safety.specs.declared.variable.Variable.{Variable}
 use Rattle.asp_safety.specs.Variables.{term_of}
-use Rattle.asp_template.proofs.compile.place_of.Given as goal
+use Rattle.asp_template.proofs.compiler.place_of.Given as goal
 
 abbrev pub invariant-loop-place : goal.invariant-loop-place
 invariant-loop-place l =

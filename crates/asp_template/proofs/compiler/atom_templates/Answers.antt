@@ -2,7 +2,7 @@ use Rattle.std.proofs.Common.{map, arith}
 use Rattle.asp_safety.specs.Variables.{term_of}
 use Rattle.asp_template.specs.Compiled.{atom_template}
 use Rattle.asp_template.proofs.Steps.{maps_item, maps_all}
-use Rattle.asp_template.proofs.compile.atom_templates.Goals as goal
+use Rattle.asp_template.proofs.compiler.atom_templates.Goals as goal
 
 pub loop-atom-preserved : goal.loop-atom-preserved
 loop-atom-preserved c =

@@ -4,7 +4,7 @@ use Rattle.asp_template.specs.declared.template.Template.{Template}
 use Rattle.asp_safety.specs.Variables.{term_of}
 use Rattle.asp_template.specs.Compiled.{with_literal}
 use Rattle.asp_template.proofs.Templates.{literals_more}
-use Rattle.asp_template.proofs.compile.compile.Goals as goal
+use Rattle.asp_template.proofs.compiler.compile.Goals as goal
 
 pub returns : goal.returns
 returns c =

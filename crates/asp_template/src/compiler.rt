@@ -13,7 +13,7 @@ use crate::template::{AtomTemplate, Comparison, Slot, Template};
 use crate::variables::is_same;
 use asp_atoms::{ConstRef, Vocabulary};
 use asp_defs::{Atom, Const, List, Literal, NoMemory, Op, Term};
-use asp_safety::variables::Variable;
+use asp_safety::Variable;
 use std::alloc::Global;
 
 /// The place of a variable in a list, or the list's length where it is none of them.
