@@ -1,16 +1,17 @@
 -- Records of which those without a number are removed, in place.
 use Rattle.std.proofs.Common.{◌≡◌, ◌≢◌, ℕ, ◌+◌, ◌-◌, ◌^◌, ◌<◌, ◌≤◌, Bool, true, false, not, List, [], ◌∷◌, ◌++◌, length, get_or, take, drop, map, set, refl, sym, ◌∙◌, ap, arith, inl, inr, subst, length-drop, length-set, length-append}
 use Rattle.std.proofs.Math.Seq.{paste}
-use Rattle.std.proofs.lemmas.List.{get_or-map, length-map, length-take-le, get_or-take, drop-drop, take_more_set, get_or-set_same, get_or-set_other, length_push, get_or_append_left, get_or_push, nil_from_length, get_or_read}
+use Rattle.std.proofs.lemmas.List.{get_or-map, length-map, length-take-le, get_or-take, drop-drop, take_more_set, get_or-set_same, get_or-set_other, length_push, get_or_append_left, get_or_push, get_or_read, same_lists, drop-take, take-take}
 use Rattle.std.proofs.lemmas.List.Edits.{take-paste, drop-paste, length-paste}
 use Rattle.std.proofs.lemmas.List.Sums.{count_by_more_yes, count_by_more_no}
 use Rattle.std.proofs.lemmas.Bool.{cases_lt, cases_eq, ne_eqb, eq-eqb}
 use Rattle.asp_clauses.specs.declared.records.Top.{Top}
 use Rattle.asp_clauses.specs.Records.{row_at, end, no_top, top_at, has_number}
 use Rattle.asp_clauses.specs.Rows.{rows_of, row_of, AreRows}
-use Rattle.asp_clauses.specs.Kept.{kept, new_number, mark_of, itself, is_kept, number_in}
+use Rattle.asp_clauses.specs.Kept.{kept, new_number, mark_of, itself, is_kept, number_in, from_on}
 use Rattle.asp_clauses.proofs.RowsLemmas.{length-rows_of, get_or-rows_of, row_ends, length-row_of, rows_of-push}
-use Rattle.asp_clauses.proofs.KeptLemmas.{kept_yes, kept_no, kept_all, kept-nothing}
+use Rattle.asp_clauses.proofs.KeptLemmas.{kept_yes, kept_no, kept_all}
+use Rattle.asp_clauses.proofs.FrontLemmas.{AllMarked, kept_front, length-from_on, marked_after}
 
 -- the mark of what visits read of a clause
 pub top_yes : (tops : List Top) (k x : ℕ) → k < length tops → x ≡ (top_at tops k).first_link → x ≢ end → mark_of (map has_number tops) k ≡ true
@@ -29,11 +30,15 @@ mark_yes rows k x h e ne = mark_is rows k h ∙ ap not (ne_eqb (number_in rows k
 pub mark_no : (rows : List (List ℕ)) (k x : ℕ) → k < length rows → x ≡ number_in rows k → x ≡ end → mark_of (map is_kept rows) k ≡ false
 mark_no rows k x h e is = mark_is rows k h ∙ ap not (eq-eqb (number_in rows k) end (sym e ∙ is))
 
-pub counted_yes : (rows : List (List ℕ)) (k x : ℕ) → k < length rows → x ≡ number_in rows k → x ≢ end → new_number (map is_kept rows) (k + 1) ≡ new_number (map is_kept rows) k + 1
-counted_yes rows k x h e ne = let l = length-map rows is_kept in count_by_more_yes itself (map is_kept rows) k false (omega (arith, l, h)) (mark_yes rows k x h e ne)
+pub counted_yes : (from : ℕ) (rows : List (List ℕ)) (k x : ℕ) → from ≤ k → k < length rows → x ≡ number_in rows k → x ≢ end → new_number (from_on from (map is_kept rows)) (k + 1) ≡ new_number (from_on from (map is_kept rows)) k + 1
+counted_yes from rows k x g h e ne =
+    let l = length-map rows is_kept in let m = length-from_on from (map is_kept rows) (omega (arith, l, g, h)) in
+    count_by_more_yes itself (from_on from (map is_kept rows)) k false (omega (arith, l, m, h)) (marked_after from (map is_kept rows) k g ∙ mark_yes rows k x h e ne)
 
-pub counted_no : (rows : List (List ℕ)) (k x : ℕ) → k < length rows → x ≡ number_in rows k → x ≡ end → new_number (map is_kept rows) (k + 1) ≡ new_number (map is_kept rows) k
-counted_no rows k x h e is = let l = length-map rows is_kept in count_by_more_no itself (map is_kept rows) k false (omega (arith, l, h)) (mark_no rows k x h e is)
+pub counted_no : (from : ℕ) (rows : List (List ℕ)) (k x : ℕ) → from ≤ k → k < length rows → x ≡ number_in rows k → x ≡ end → new_number (from_on from (map is_kept rows)) (k + 1) ≡ new_number (from_on from (map is_kept rows)) k
+counted_no from rows k x g h e is =
+    let l = length-map rows is_kept in let m = length-from_on from (map is_kept rows) (omega (arith, l, g, h)) in
+    count_by_more_no itself (from_on from (map is_kept rows)) k false (omega (arith, l, m, h)) (marked_after from (map is_kept rows) k g ∙ mark_no rows k x h e is)
 
 -- ---- rows move down in the list of words
 AreRows-push : (words starts row : List ℕ) → AreRows words starts → length starts < 2 ^ 32 → length words + length row < 2 ^ 32 → AreRows (words ++ row) (starts ++ (length words + length row) ∷ [])
@@ -77,31 +82,56 @@ pub record IsCompacting (words0 starts0 : List ℕ) (marks : List Bool) (words s
 start_within : (words starts : List ℕ) → AreRows words starts → (k : ℕ) → k < length starts → get_or starts k 0 ≤ length words
 start_within words starts r k h = let o = r.ordered k (length starts - 1) (omega arith) (omega arith) in let e = r.last in omega (arith, o, e)
 
-pub IsCompacting-none : (words starts : List ℕ) (marks : List Bool) (first : ℕ) → AreRows words starts → first ≡ get_or starts 0 0 → IsCompacting words starts marks words starts 0 0 first
-IsCompacting-none words starts marks first r e =
-    let some = r.some in
-    let small = r.small in
-    let within = start_within words starts r 0 some in
+-- the first rows lie in the first words
+rows_of-front : (words starts : List ℕ) (from : ℕ) → AreRows words starts → from < length starts → rows_of (take (get_or starts from 0) words) (take (from + 1) starts) ≡ take from (rows_of words starts)
+rows_of-front words starts from r h =
+    let first = get_or starts from 0 in
+    let words1 = take first words in let starts1 = take (from + 1) starts in
+    let ls = length-take-le (from + 1) starts (omega arith) in
+    let lr = length-rows_of words starts in
+    let lt = length-take-le from (rows_of words starts) (omega (arith, lr)) in
+    let l1 = length-rows_of words1 starts1 in
+    same_lists (rows_of words1 starts1) (take from (rows_of words starts)) (omega (arith, ls, lt, l1)) (λ i d il.
+    let within : i < from = omega (arith, il, l1, ls) in
+    let a = get_or starts i 0 in let b = get_or starts (i + 1) 0 in
+    let at : get_or starts1 i 0 ≡ a = get_or-take (from + 1) starts i 0 (omega (arith, within)) in
+    let at_next : get_or starts1 (i + 1) 0 ≡ b = get_or-take (from + 1) starts (i + 1) 0 (omega (arith, within)) in
+    let low = r.ordered i (i + 1) (omega arith) (omega (arith, within)) in
+    let high = r.ordered (i + 1) from (omega (arith, within)) h in
+    let there : a + (first - a) ≡ first = omega (arith, low, high) in
+    get_or-rows_of words1 starts1 i d (omega (arith, ls, within))
+    ∙ ap (λ (x : ℕ). take (get_or starts1 (i + 1) 0 - x) (drop x words1)) at
+    ∙ ap (λ (x : ℕ). take (x - a) (drop a words1)) at_next
+    ∙ ap (λ (x : ℕ). take (b - a) (drop a (take x words))) (sym there)
+    ∙ ap (take (b - a)) (drop-take a (first - a) words)
+    ∙ take-take (b - a) (first - a) (drop a words) (omega (arith, low, high))
+    ∙ sym (get_or-rows_of words starts i d (omega (arith, within)))
+    ∙ sym (get_or-take from (rows_of words starts) i d within))
+
+pub IsCompacting-front : (words starts : List ℕ) (marks : List Bool) (from first : ℕ) → AreRows words starts → AllMarked marks from → length marks ≡ length (rows_of words starts) → from < length starts → first ≡ get_or starts from 0 → IsCompacting words starts marks words starts from from first
+IsCompacting-front words starts marks from first r m lm h e =
+    let small = r.small in let few = r.few in
+    let lr = length-rows_of words starts in
+    let within = start_within words starts r from h in
     let w = length-take-le first words (omega (arith, e, within)) in
-    let s = length-take-le (0 + 1) starts (omega (arith, some)) in
-    let start : get_or (take (0 + 1) starts) 0 0 ≡ first = get_or-take (0 + 1) starts 0 0 (omega arith) ∙ sym e in
-    let none = length-rows_of (take first words) (take (0 + 1) starts) in
+    let s = length-take-le (from + 1) starts (omega (arith, h)) in
+    let at : (i : ℕ) → i < from + 1 → get_or (take (from + 1) starts) i 0 ≡ get_or starts i 0 = λ i l. get_or-take (from + 1) starts i 0 l in
     record {
       words_size = refl;
       starts_size = refl;
-      treated = some;
+      treated = h;
       behind = omega arith;
       lower = omega (arith, e);
       sound = record {
         some = omega (arith, s);
-        few = omega (arith, s);
-        ordered = λ i j ij h. let same : i ≡ j = omega (arith, ij, h, s) in let q = ap (λ (n : ℕ). get_or (take (0 + 1) starts) n 0) same in omega (arith, q);
-        last = let z : length (take (0 + 1) starts) - 1 ≡ 0 = omega (arith, s) in ap (λ (n : ℕ). get_or (take (0 + 1) starts) n 0) z ∙ start ∙ sym w;
+        few = omega (arith, s, few, h);
+        ordered = λ i j ij l. let a = at i (omega (arith, ij, l, s)) in let b = at j (omega (arith, l, s)) in let o = r.ordered i j ij (omega (arith, l, s, h)) in omega (arith, a, b, o);
+        last = let z : length (take (from + 1) starts) - 1 ≡ from = omega (arith, s) in ap (λ (n : ℕ). get_or (take (from + 1) starts) n 0) z ∙ at from (omega arith) ∙ sym e ∙ sym w;
         small = omega (arith, w, small, within, e);
       };
-      so_far = nil_from_length (rows_of (take first words) (take (0 + 1) starts)) (omega (arith, none, s)) ∙ sym (kept-nothing marks (rows_of words starts));
+      so_far = ap (λ (n : ℕ). rows_of (take n words) (take (from + 1) starts)) e ∙ rows_of-front words starts from r h ∙ sym (kept_front marks (rows_of words starts) [] from m (omega (arith, lm, lr, h)) (omega (arith, lr, h)));
       rest = refl;
-      later = λ j h. refl;
+      later = λ j l. refl;
     }
 
 -- what lies from a later place on stays too

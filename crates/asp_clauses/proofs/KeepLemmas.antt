@@ -2,7 +2,8 @@
 use Rattle.std.proofs.Common.{◌≡◌, ℕ, ◌+◌, ◌<◌, ◌≤◌, Bool, true, false, List, [], ◌∷◌, ◌++◌, length, get_or, take, set, refl, sym, ◌∙◌, ap, arith, subst, length-set}
 use Rattle.std.proofs.lemmas.List.{take_more_set, get_or-set_other}
 use Rattle.asp_clauses.specs.Kept.{kept, mark_of}
-use Rattle.asp_clauses.proofs.KeptLemmas.{kept_yes, kept_no, kept-nothing}
+use Rattle.asp_clauses.proofs.KeptLemmas.{kept_yes, kept_no}
+use Rattle.asp_clauses.proofs.FrontLemmas.{AllMarked, kept_front}
 
 -- the first `done` items are treated, and `count` of them are kept
 pub record IsKeeping {A : Type 0} (no_item : A) (marks : List Bool) (items0 items : List A) (done count : ℕ) : Type 0 where
@@ -11,8 +12,8 @@ pub record IsKeeping {A : Type 0} (no_item : A) (marks : List Bool) (items0 item
   pub so_far : take count items ≡ kept (take done marks) (take done items0)
   pub later : (j : ℕ) → done ≤ j → get_or items j no_item ≡ get_or items0 j no_item
 
-pub IsKeeping-none : {A : Type 0} (no_item : A) (marks : List Bool) (items : List A) → IsKeeping no_item marks items items 0 0
-IsKeeping-none no_item marks items = record { as_many = refl; behind = omega arith; so_far = sym (kept-nothing marks items); later = λ j h. refl }
+pub IsKeeping-front : {A : Type 0} (no_item : A) (marks : List Bool) (items : List A) (from : ℕ) → AllMarked marks from → from ≤ length marks → from ≤ length items → IsKeeping no_item marks items items from from
+IsKeeping-front no_item marks items from m h g = record { as_many = refl; behind = omega arith; so_far = sym (kept_front marks items no_item from m h g); later = λ j l. refl }
 
 pub IsKeeping-no : {A : Type 0} (no_item : A) (marks : List Bool) (items0 items : List A) (done count : ℕ) → IsKeeping no_item marks items0 items done count → done < length marks → length marks ≡ length items0 → mark_of marks done ≡ false → IsKeeping no_item marks items0 items (done + 1) count
 IsKeeping-no no_item marks items0 items done count i h same m = record {

@@ -19,8 +19,10 @@ pub mod ReorderLemmas
 pub mod ExamineLemmas
 pub mod VisitLemmas
 pub mod WalkLemmas
+pub mod UnwatchLemmas
 pub mod RunLemmas
 pub mod KeptLemmas
+pub mod FrontLemmas
 pub mod RenamedLemmas
 pub mod CompactLemmas
 pub mod KeepLemmas

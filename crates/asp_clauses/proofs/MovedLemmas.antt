@@ -142,7 +142,7 @@ IsListed-moved old one two three lists k previous clause from index f m l at =
     let B1 : ℕ → ℕ → Type 0 = λ literal d. B0 literal d × (literal ≡ from → d ≢ clause) in
     let m1 : ListsOf B1 old.atoms lists1 = ListsOf-remove B0 B1 old.atoms lists from k l.members f.code at.within
     (λ literal d b. (b.0, λ e x. b.1 e (x ∙ at.here))) (λ literal d b n. (b, λ e x. n e (x ∙ sym at.here))) in
-    let t1 = AreThreads-unlinked old one lists from k previous clause s u f.code at l in
+    let t1 = AreThreads-unlinked B0 old one lists from k previous clause s u f.code at l.threads l.members (λ literal d b. b) in
     let watching1 : (literal i : ℕ) → literal ≤ 2 * old.atoms → i < length (lists1 literal) → get_or (lists1 literal) i end ≡ clause → WatchedBy (row_at one.records clause) literal × (literal ≢ from) = λ literal i a il e.
     let q = m1.sound literal i a il in (
       subst (λ (n : ℕ). WatchedBy (row_at one.records n) literal) e (elim q.0.1 [

@@ -5,7 +5,7 @@ use Rattle.std.proofs.lemmas.List.{length_push, get_or_append_left, get_or_push,
 use Rattle.std.proofs.lemmas.Bool.{cases_lt, cases_eq}
 use Rattle.asp_clauses.specs.declared.records.Top.{Top}
 use Rattle.asp_clauses.specs.Records.{row_at, record_of, row_for, no_top, top_at, top_for, has_number, linked_top, record_at, records_of, IsTopped, AreTopped}
-use Rattle.asp_clauses.specs.Kept.{kept, is_kept}
+use Rattle.asp_clauses.specs.Kept.{kept, is_kept, from_on}
 use Rattle.asp_clauses.proofs.KeptLemmas.{length-kept}
 use Rattle.asp_clauses.proofs.RowsLemmas.{swap_sets}
 use Rattle.std.proofs.lemmas.List.Edits.{length-swap}
@@ -246,13 +246,13 @@ swap_written tops rows rows1 records clause read new i j a e h hi hj li lj w r f
       ap (records_of (set tops clause new)) w ∙ swapped_is tops rows records clause new i j a e h (f ∙ ap (λ (x : Top). x.first_link) r) (s ∙ ap (λ (x : Top). x.second_link) r) hi hj li lj,
     )
 
-pub compacted_records : (tops tops1 : List Top) (rows rows1 records : List (List ℕ)) → AreTopped tops rows → records_of tops rows ≡ records → tops1 ≡ kept (map has_number tops) tops → rows1 ≡ kept (map has_number tops) rows →
-    AreTopped tops1 rows1 × (records_of tops1 rows1 ≡ kept (map is_kept records) records)
-compacted_records tops tops1 rows rows1 records a e t r =
-    let marks = map has_number tops in (
+pub compacted_records : (from : ℕ) (tops tops1 : List Top) (rows rows1 records : List (List ℕ)) → AreTopped tops rows → records_of tops rows ≡ records → tops1 ≡ kept (from_on from (map has_number tops)) tops → rows1 ≡ kept (from_on from (map has_number tops)) rows →
+    AreTopped tops1 rows1 × (records_of tops1 rows1 ≡ kept (from_on from (map is_kept records)) records)
+compacted_records from tops tops1 rows rows1 records a e t r =
+    let marks = from_on from (map has_number tops) in (
       subst (λ (x : List Top). AreTopped x rows1) (sym t) (subst (AreTopped (kept marks tops)) (sym r) (AreTopped-kept marks tops rows a)),
       ap (λ (x : List Top). records_of x rows1) t ∙ ap (records_of (kept marks tops)) r ∙ records_of-kept marks tops rows a.as_many
-          ∙ ap (λ (m : List Bool). kept m (records_of tops rows)) (sym (marks_alike tops rows a.as_many)) ∙ ap (λ (x : List (List ℕ)). kept (map is_kept x) x) e,
+          ∙ ap (λ (m : List Bool). kept (from_on from m) (records_of tops rows)) (sym (marks_alike tops rows a.as_many)) ∙ ap (λ (x : List (List ℕ)). kept (from_on from (map is_kept x)) x) e,
     )
 
 pub pushed_records : (tops tops1 : List Top) (rows rows1 records : List (List ℕ)) (code : ℕ) (literals : List ℕ) (top : Top) → AreTopped tops rows → records_of tops rows ≡ records → top ≡ top_for code literals → tops1 ≡ tops ++ top ∷ [] → rows1 ≡ rows ++ row_for code literals ∷ [] →

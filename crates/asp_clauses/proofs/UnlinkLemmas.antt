@@ -5,7 +5,7 @@ use Rattle.std.proofs.lemmas.Bool.{cases_lt, cases_eq}
 use Rattle.std.proofs.lemmas.List.{get_or-set_same, get_or-set_other}
 use Rattle.asp_clauses.specs.declared.watches.Watches.{Watches}
 use Rattle.asp_clauses.specs.Records.{row_at, literals_of, end}
-use Rattle.asp_clauses.specs.Watches.{IsRecord, side_of, link_of, Watching, WatchingBelow, AreThreads, IsStore, IsListed}
+use Rattle.asp_clauses.specs.Watches.{IsRecord, side_of, link_of, Watching, WatchingBelow, AreThreads, ListsOf, IsStore}
 use Rattle.asp_clauses.specs.Visits.{removed, IsAt, Links, Unlinks}
 use Rattle.asp_clauses.proofs.ListLemmas.{Threaded, Threaded-remove}
 use Rattle.asp_clauses.proofs.WatchLemmas.{swap_first, swap_other, row_size, length_literals, literal_in_row, watches_differ, side_first, side_second, side_cases, side-lt, at_side, sides_differ, side_of-same, literals_of-link, link_cell, IsRecord-link, IsRecord-swap, row_set_same, row_set_other}
@@ -88,9 +88,10 @@ IsStore-unlinked old new previous clause literal s u p = elim (cases_eq previous
 ]
 
 -- the lists without the clause
-pub AreThreads-unlinked : (old new : Watches) (lists : ℕ → List ℕ) (from k previous clause : ℕ) → IsStore old → Unlinks old new previous clause from → from ≤ 2 * old.atoms → IsAt lists from k previous clause → IsListed old lists → AreThreads old.atoms new.heads.items new.records (removed lists from k)
-AreThreads-unlinked old new lists from k previous clause s u code at l =
-    let t = l.threads in let m = l.members in
+pub AreThreads-unlinked : (Belongs : ℕ → ℕ → Type 0) (old new : Watches) (lists : ℕ → List ℕ) (from k previous clause : ℕ) → IsStore old → Unlinks old new previous clause from → from ≤ 2 * old.atoms → IsAt lists from k previous clause →
+    AreThreads old.atoms old.heads.items old.records lists → ListsOf Belongs old.atoms lists → ((literal d : ℕ) → Belongs literal d → WatchingBelow old.records old.watched literal d) → AreThreads old.atoms new.heads.items new.records (removed lists from k)
+AreThreads-unlinked Belongs old new lists from k previous clause s u code at t m watches =
+    let sound_at : (literal i : ℕ) → literal ≤ 2 * old.atoms → i < length (lists literal) → WatchingBelow old.records old.watched literal (get_or (lists literal) i end) = λ literal i a il. watches literal (get_or (lists literal) i end) (m.sound literal i a il) in
     let v = link_of old.records from clause in
     let few = s.few in let watched = s.watched in
     let done : Threaded (2 * old.atoms) (λ literal. get_or new.heads.items literal 0) (link_of new.records) (removed lists from k) = elim (cases_eq k 0) [
@@ -109,7 +110,7 @@ AreThreads-unlinked old new lists from k previous clause s u code at l =
           let one : k ≡ (k - 1) + 1 = omega (arith, nz) in
           let before = at.later (k - 1) one in
           let in_list : k - 1 < length (lists from) = let w = at.within in omega (arith, w, nz) in
-          let sound = m.sound from (k - 1) code in_list in
+          let sound = sound_at from (k - 1) code in_list in
           let prev_lt : previous < old.watched = subst (λ (n : ℕ). n < old.watched) before sound.0 in
           let prev_row : previous < length old.records = omega (arith, prev_lt, watched) in
           let not_end : previous ≢ end = omega (arith, prev_row, few) in
@@ -144,7 +145,7 @@ AreThreads-unlinked old new lists from k previous clause s u code at l =
                     | inr upper ↦ m.distinct from (k - 1) i code (omega (arith, q.0, upper, nz)) il' (before ∙ sym there)
                   ])
               | inr other ↦
-                  let watching : (get_or row 3 0 ≡ literal) ⊎ (get_or row 4 0 ≡ literal) = subst (λ (n : ℕ). Watching old.records literal n) e (m.sound literal i a il).1 in
+                  let watching : (get_or row 3 0 ≡ literal) ⊎ (get_or row 4 0 ≡ literal) = subst (λ (n : ℕ). Watching old.records literal n) e (sound_at literal i a il).1 in
                   let ne = sides_differ row literal from watching prev_watching other in
                   let apart : 1 + side_of row literal ≢ i0 = omega (arith, ne) in
                   ap (link_of new.records literal) e ∙ ap (λ (x : List ℕ). get_or x (1 + side_of x literal) 0) here ∙ ap (λ (n : ℕ). get_or new_row (1 + n) 0) (same_side literal)

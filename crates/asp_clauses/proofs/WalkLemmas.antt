@@ -56,7 +56,7 @@ pub record IsVisiting (first watches : Watches) (start trail : TrailState) (fals
   pub walk : (lists : ℕ → List ℕ) × (k : ℕ) × IsWalk watches trail falsified previous clause turn turns lists k
 
 -- a list has no more clauses than there are
-list_few : (watches : Watches) (lists : ℕ → List ℕ) (literal : ℕ) → IsStore watches → IsListed watches lists → literal ≤ 2 * watches.atoms → length (lists literal) ≤ watches.watched
+pub list_few : (watches : Watches) (lists : ℕ → List ℕ) (literal : ℕ) → IsStore watches → IsListed watches lists → literal ≤ 2 * watches.atoms → length (lists literal) ≤ watches.watched
 list_few watches lists literal s l h =
     let xs = lists literal in
     distinct_few xs watches.watched

@@ -1,5 +1,5 @@
 -- Which clauses are kept where others are removed, and what number each gets.
-use Rattle.std.specs.Prelude.{◌≡◌, ℕ, ◌<◌, ◌==◌, ◌⊎◌, not, Bool, true, false, List, [], ◌∷◌, length, map, take, Some, option_map, slice_index, slice_index_or, if◌then◌else◌}
+use Rattle.std.specs.Prelude.{◌≡◌, ℕ, ◌<◌, ◌≤◌, ◌==◌, ◌⊎◌, not, Bool, true, false, List, [], ◌∷◌, ◌++◌, length, map, take, drop, replicate, Some, option_map, slice_index, slice_index_or, if◌then◌else◌}
 use Rattle.std.specs.List.{count_by}
 use Rattle.asp_clauses.specs.declared.kind.Kind.{Kind}
 use Rattle.asp_clauses.specs.declared.trail.Step.{Step}
@@ -24,6 +24,10 @@ new_number marks number = count_by itself (take number marks)
 abbrev pub mark_of : List Bool → ℕ → Bool
 mark_of marks number = slice_index_or marks number false
 
+-- the marks, with all before a number true
+abbrev pub from_on : ℕ → List Bool → List Bool
+from_on from marks = replicate from true ++ drop from marks
+
 abbrev pub no_kind : Kind
 no_kind = record { learned = false; loose = false; score = 0 }
 
@@ -32,6 +36,10 @@ kind_at kinds number = slice_index_or kinds number no_kind
 
 abbrev pub is_firm : Kind → Bool
 is_firm kind = not kind.loose
+
+-- the first clauses, as many as this, are firm
+abbrev pub AreFirmBelow : List Kind → ℕ → Type 0
+AreFirmBelow kinds firm = (clause : ℕ) → clause < firm → is_firm (kind_at kinds clause) ≡ true
 
 -- the clause is the reason of a placed literal
 abbrev pub IsReason : List Step → ℕ → Type 0
@@ -61,13 +69,14 @@ label marks clause = if mark_of marks clause then new_number marks clause else e
 abbrev pub is_kept : List ℕ → Bool
 is_kept row = not (slice_index row 1 == end)
 
--- the first records, as many as `done`, have their new numbers in place of links
-pub record AreNumbered (old new : Watches) (marks : List Bool) (done : ℕ) : Type 0 where
+-- the records from `from` up to `done` have their new numbers in place of links, and those before are as they were
+pub record AreNumbered (old new : Watches) (marks : List Bool) (from done : ℕ) : Type 0 where
   pub same : new ≡ record old { records = new.records }
   pub store : IsStore new
   pub as_many : length new.records ≡ length old.records
   pub clauses : map literals_of new.records ≡ map literals_of old.records
-  pub numbers : (clause : ℕ) → clause < done → number_in new.records clause ≡ label marks clause
+  pub before : (clause : ℕ) → clause < from → row_at new.records clause ≡ row_at old.records clause
+  pub numbers : (clause : ℕ) → from ≤ clause → clause < done → number_in new.records clause ≡ label marks clause
 
 -- the marks of reasons are true now, and no other mark has changed
 pub record MarksReasons (steps : List Step) (done : ℕ) (old new : List Bool) : Type 0 where

@@ -1,5 +1,5 @@
 -- How the steps of propagation change watches and trail.
-use Rattle.std.specs.Prelude.{◌≡◌, ◌≢◌, ℕ, ◌+◌, ◌-◌, ◌<◌, ◌==◌, false, List, ◌∷◌, ◌++◌, length, slice_index, slice_index_or, slice_set, swap, if◌then◌else◌}
+use Rattle.std.specs.Prelude.{◌≡◌, ◌≢◌, ℕ, ◌+◌, ◌-◌, ◌<◌, ◌≤◌, ◌==◌, false, List, ◌∷◌, ◌++◌, length, slice_index, slice_index_or, slice_set, swap, if◌then◌else◌}
 use Rattle.std.specs.List.{remove}
 use Rattle.asp_clauses.specs.declared.trail.Step.{Step}
 use Rattle.asp_clauses.specs.declared.watches.Watches.{Watches}
@@ -63,6 +63,13 @@ pub record MovesWatch (old new : Watches) (clause literal index : ℕ) : Type 0 
 pub record WatchesOneMore (old new : Watches) : Type 0 where
   pub atoms : new.atoms ≡ old.atoms
   pub watched : new.watched ≡ old.watched + 1
+  pub clauses : (book_of new).clauses ≡ (book_of old).clauses
+  pub as_many : length new.records ≡ length old.records
+
+-- no more clauses are watched, and each clause is as it was
+pub record IsUnlinked (old new : Watches) : Type 0 where
+  pub atoms : new.atoms ≡ old.atoms
+  pub watched : new.watched ≤ old.watched
   pub clauses : (book_of new).clauses ≡ (book_of old).clauses
   pub as_many : length new.records ≡ length old.records
 

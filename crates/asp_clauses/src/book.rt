@@ -5,10 +5,10 @@ ghost use Rattle.asp_clauses.specs.Literal.{most_atoms};
 ghost use Rattle.asp_clauses.specs.Trail.{TrailState, clause_at};
 ghost use Rattle.asp_clauses.specs.Book.{Goes, IsClause};
 ghost use Rattle.asp_clauses.specs.Records.{end};
-ghost use Rattle.asp_clauses.specs.Kept.{kept, is_firm, mark_of, kind_at, no_kind, renumbered, IsReason};
+ghost use Rattle.asp_clauses.specs.Kept.{kept, is_firm, AreFirmBelow, mark_of, kind_at, no_kind, renumbered, IsReason};
 
 use crate::NoMemory;
-use crate::compact::{compact, keep_added, number_clauses, number_firm};
+use crate::compact::{compact, count_firm, keep_added, number_clauses, number_firm, unwatch_from};
 use crate::kind::{FIRM, Kind, LOOSE};
 use crate::trail::Trail;
 use crate::watches::Watches;
@@ -21,6 +21,8 @@ pub struct Book {
     pub(crate) watches: Watches,
     // The kind of each clause.
     kinds: Vec<Kind>,
+    // How many clauses there are before the first loose one.
+    firm: u32,
 }
 
 impl Model for Book {
@@ -28,11 +30,14 @@ impl Model for Book {
 
     ghost Value = { BookState };
 
+    ghost use Rattle.std.specs.Prelude.{◌≤◌, length};
     ghost use Rattle.asp_clauses.specs.Watches.{book_of, AreWatches, HaveKinds};
+    ghost use Rattle.asp_clauses.specs.Kept.{AreFirmBelow};
 
     ghost view = { λ b. record (book_of b.watches) { kinds = b.kinds.items } };
 
-    ghost invariant = { λ b. AreWatches b.watches × HaveKinds b.watches b.kinds.items };
+    ghost invariant = { λ b. AreWatches b.watches × HaveKinds b.watches b.kinds.items
+        × (b.firm ≤ length b.kinds.items) × AreFirmBelow b.kinds.items b.firm };
 }
 
 impl Book {
@@ -46,6 +51,7 @@ impl Book {
         Ok(Book {
             watches: Watches::new(alloc, atoms)?,
             kinds: Vec::new(alloc),
+            firm: 0,
         })
     }
 
@@ -119,7 +125,10 @@ impl Book {
         self.kinds.push(kind)?;
         let origin = 2 * self.watches.atoms;
         match self.watches.records.push(lits, origin) {
-            Ok(number) => Ok(number),
+            Ok(number) => {
+                self.firm += u32::from(self.firm == number && !kind.loose);
+                Ok(number)
+            }
             Err(fault) => {
                 self.kinds.truncate(count);
                 Err(fault)
@@ -128,6 +137,9 @@ impl Book {
     }
 
     /// Removes the loose clauses. The firm ones stay in order, and are numbered from 0.
+    ///
+    /// It goes over the clauses from the first loose one on, and for each of these that is watched over the lists of its two
+    /// watches down to it; the newest stand at the front. The clauses before the first loose one cost nothing.
     pub fn settle(&mut self, trail: &Trail)
         requires goes { Goes self.old trail.now }
         requires empty { trail.now.steps ≡ [] }
@@ -137,12 +149,16 @@ impl Book {
         ensures goes { Goes self.new trail.now }
     {
         let _ = trail;
-        number_firm(&mut self.watches, self.kinds.as_slice());
-        compact(&mut self.watches, &mut self.kinds);
+        let watched = self.watches.watched;
+        unwatch_from(&mut self.watches, self.firm);
+        number_firm(&mut self.watches, self.kinds.as_slice(), self.firm);
+        compact(&mut self.watches, &mut self.kinds, self.firm, watched);
+        self.firm = self.watches.records.len();
     }
 
     /// Removes the learned clauses that aren't marked to stay and are no reason of a placed literal. The others stay in
-    /// order, and are numbered from 0, also in the trail. Afterwards the marks tell which clauses stayed.
+    /// order, and are numbered from 0, also in the trail. Afterwards the marks tell which clauses stayed. It goes over all
+    /// clauses.
     pub fn remove(&mut self, trail: &mut Trail, stays: &mut [bool])
         requires goes { Goes self.old trail.old }
         requires marks { length stays.old ≡ length self.old.clauses }
@@ -161,9 +177,12 @@ impl Book {
     {
         keep_added(stays, self.kinds.as_slice());
         trail.mark_reasons(stays);
+        let watched = self.watches.watched;
+        self.watches.unlink_all();
         number_clauses(&mut self.watches, stays);
         trail.renumber(&self.watches.records);
-        compact(&mut self.watches, &mut self.kinds);
+        compact(&mut self.watches, &mut self.kinds, 0, watched);
+        self.firm = count_firm(self.kinds.as_slice());
     }
 
     /// Shows that no clause has the number that stands for none.
@@ -178,6 +197,14 @@ impl Book {
         ensures { result ≡ length self.now.clauses }
     {
         self.watches.records.len()
+    }
+
+    /// How many clauses there are before the first loose one: these stay as they are when the book settles.
+    pub fn firm(&self) -> u32
+        ensures within { result ≤ length self.now.clauses }
+        ensures firm { AreFirmBelow self.now.kinds result }
+    {
+        self.firm
     }
 
     /// The literals of the clause, in some order.

@@ -3,7 +3,7 @@
 
 ghost use Rattle.std.specs.Prelude.{◌≡◌, ◌+◌, ◌-◌, ◌<◌, ◌≤◌, ◌^◌, [], ◌∷◌, ◌++◌, length, map, IfOk, OnErr, slice_index, slice_index_or, slice_set, slice_range, swap};
 ghost use Rattle.asp_clauses.specs.Records.{row_at, record_of, literals_of, end, top_for, has_number, linked_top};
-ghost use Rattle.asp_clauses.specs.Kept.{kept, is_kept};
+ghost use Rattle.asp_clauses.specs.Kept.{kept, is_kept, from_on};
 
 use crate::NoMemory;
 use crate::rows::{FIRST, Rows};
@@ -126,12 +126,14 @@ impl Records {
         self.rows.literals(clause)
     }
 
-    /// Removes the records without a number, which stands in place of the first link. The others stay in order.
-    pub fn compact(&mut self)
-        ensures { self.new ≡ kept (map is_kept self.old) self.old }
+    /// Removes the records without a number, which stands in place of the first link, from the record `from` on. The others
+    /// stay in order.
+    pub fn compact(&mut self, from: u32)
+        requires { from ≤ length self.old }
+        ensures { self.new ≡ kept (from_on from (map is_kept self.old)) self.old }
     {
-        self.rows.compact(self.tops.as_slice());
-        keep_tops(&mut self.tops);
+        self.rows.compact(self.tops.as_slice(), from);
+        keep_tops(&mut self.tops, from as usize);
     }
 
     /// Appends a record and answers its number.
@@ -190,12 +192,13 @@ fn new_top(literals: &[u32], origin: u32) -> Top
     }
 }
 
-/// Removes what is kept for visits of the clauses without a number.
-fn keep_tops(tops: &mut Vec<Top>)
-    ensures { tops.new.items ≡ kept (map has_number tops.old.items) tops.old.items }
+/// Removes what is kept for visits of the clauses without a number, from the clause `from` on.
+fn keep_tops(tops: &mut Vec<Top>, from: usize)
+    requires { from ≤ length tops.old.items }
+    ensures { tops.new.items ≡ kept (from_on from (map has_number tops.old.items)) tops.old.items }
 {
-    let mut count = 0;
-    for clause in 0..tops.len() {
+    let mut count = from;
+    for clause in from..tops.len() {
         let top = tops[clause];
         if top.first_link != END {
             tops[count] = top;

@@ -3,7 +3,7 @@
 ghost use Rattle.std.specs.Prelude.{◌≡◌, ◌+◌, ◌-◌, ◌<◌, ◌≤◌, ◌^◌, [], ◌∷◌, ◌++◌, length, map, IfOk, OnErr, slice_index, slice_index_or, slice_set, slice_range, swap};
 ghost use Rattle.asp_clauses.specs.Records.{row_at, row_for, clause_of, has_number, end};
 ghost use Rattle.asp_clauses.specs.Rows.{rows_of, AreRows};
-ghost use Rattle.asp_clauses.specs.Kept.{kept};
+ghost use Rattle.asp_clauses.specs.Kept.{kept, from_on};
 
 use crate::NoMemory;
 use crate::records::{END, Top};
@@ -118,26 +118,28 @@ impl Rows {
         Err(AllocError)
     }
 
-    /// Removes the rows of the clauses without a number. The others stay in order.
-    pub fn compact(&mut self, tops: &[Top])
-        requires { length tops.now ≡ length self.old }
-        ensures { self.new ≡ kept (map has_number tops.now) self.old }
+    /// Removes the rows of the clauses without a number, from the row `from` on. The others stay in order.
+    pub fn compact(&mut self, tops: &[Top], from: u32)
+        requires tops { length tops.now ≡ length self.old }
+        requires from { from ≤ length self.old }
+        ensures { self.new ≡ kept (from_on from (map has_number tops.now)) self.old }
     {
-        compact_rows(&mut self.words, &mut self.starts, tops);
+        compact_rows(&mut self.words, &mut self.starts, tops, from as usize);
     }
 }
 
-/// Removes the rows of the clauses without a number.
-fn compact_rows(words: &mut Vec<u32>, starts: &mut Vec<u32>, tops: &[Top])
+/// Removes the rows of the clauses without a number, from the row `from` on.
+fn compact_rows(words: &mut Vec<u32>, starts: &mut Vec<u32>, tops: &[Top], from: usize)
     requires rows { AreRows words.old.items starts.old.items }
     requires tops { length tops.now ≡ length (rows_of words.old.items starts.old.items) }
+    requires from { from ≤ length tops.now }
     ensures rows { AreRows words.new.items starts.new.items }
     ensures kept { rows_of words.new.items starts.new.items
-        ≡ kept (map has_number tops.now) (rows_of words.old.items starts.old.items) }
+        ≡ kept (from_on from (map has_number tops.now)) (rows_of words.old.items starts.old.items) }
 {
-    let mut count = 0;
-    let mut end = starts[0] as usize;
-    for row in 0..starts.len() - 1 {
+    let mut count = from;
+    let mut end = starts[from] as usize;
+    for row in from..starts.len() - 1 {
         let start = starts[row] as usize;
         let next = starts[row + 1] as usize;
         if tops[row].first_link != END {

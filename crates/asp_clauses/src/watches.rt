@@ -7,7 +7,7 @@ ghost use Rattle.std.specs.Prelude.{◌≡◌, ◌≢◌, ℕ, ◌+◌, ◌-◌,
 ghost use Rattle.asp_clauses.specs.Literal.{most_atoms};
 ghost use Rattle.asp_clauses.specs.Watches.{AreWatches, IsRecord, IsListed, IsStore, side_of, link_of, WatchingBelow, Watching};
 ghost use Rattle.asp_clauses.specs.Records.{row_at, end};
-ghost use Rattle.asp_clauses.specs.Visits.{IsAt, MovesWatch, Links, Unlinks, WatchesOneMore, moved, other_watch};
+ghost use Rattle.asp_clauses.specs.Visits.{IsAt, MovesWatch, Links, Unlinks, WatchesOneMore, IsUnlinked, moved, other_watch};
 
 use crate::NoMemory;
 use crate::records::{END, LINKS, LITERALS, Records};
@@ -90,15 +90,10 @@ impl Watches {
 
     /// Empties all lists, so that no clause is watched.
     pub fn unlink_all(&mut self)
-        requires few { self.old.atoms ≤ most_atoms }
-        requires heads { length self.old.heads.items ≡ 2 * self.old.atoms + 1 }
-        requires rows { length self.old.records < 2 ^ 32 }
-        requires records { (clause : ℕ) → clause < length self.old.records
-            → IsRecord self.old.atoms (row_at self.old.records clause) }
+        requires { IsStore self.old }
         ensures watches { AreWatches self.new }
-        ensures atoms { self.new.atoms ≡ self.old.atoms }
-        ensures records { self.new.records ≡ self.old.records }
-        ensures watched { self.new.watched ≡ 0 }
+        ensures unlinked { IsUnlinked self.old self.new }
+        ensures none { self.new.watched ≡ 0 }
     {
         self.heads.fill(END);
         self.watched = 0;
@@ -133,6 +128,43 @@ impl Watches {
         self.link(clause, 0);
         self.link(clause, 1);
         self.watched += 1;
+    }
+
+    /// The clause before this one in the list of a literal that it watches; none, as `END`, where it is the first.
+    fn before(&self, clause: u32, literal: u32) -> u32
+        requires watches { AreWatches self.now }
+        requires code { literal ≤ 2 * self.now.atoms }
+        requires clause { WatchingBelow self.now.records self.now.watched literal clause }
+        ensures within { result < length self.now.records ⊎ (result ≡ end) }
+        ensures before { (lists : ℕ → List ℕ) → IsListed self.now lists → (k : ℕ) × IsAt lists literal k result clause }
+    {
+        let mut previous = END;
+        let mut other = self.heads[literal as usize];
+        'walk: for _turn in 0..self.records.len() {
+            if other == clause {
+                return previous;
+            }
+            previous = other;
+            other = self.next(other, literal);
+        }
+        previous
+    }
+
+    /// Has the last of the watched clauses watched no more.
+    pub fn unwatch(&mut self)
+        requires watches { AreWatches self.old }
+        requires some { 0 < self.old.watched }
+        ensures watches { AreWatches self.new }
+        ensures one_less { WatchesOneMore self.new self.old }
+    {
+        let clause = self.watched - 1;
+        let first = self.records.cell(clause, LITERALS);
+        let second = self.records.cell(clause, LITERALS + 1);
+        let before_first = self.before(clause, first);
+        let before_second = self.before(clause, second);
+        self.unlink(before_first, clause, first);
+        self.unlink(before_second, clause, second);
+        self.watched = clause;
     }
 
     /// Has the clause watch the literal at this index in place of one that became false.
