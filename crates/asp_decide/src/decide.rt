@@ -168,6 +168,7 @@ pub fn choose(heap: &mut DecisionHeap, trail: &Trail, ordered: bool) -> Option<u
     requires heap { heap.old.atoms ≡ trail.now.atoms }
     requires few { trail.now.atoms ≤ most_atoms }
     ensures heap { heap.new.atoms ≡ heap.old.atoms }
+    ensures phases { heap.new.phases ≡ heap.old.phases }
     ensures code { IfSome result (λ literal. literal < 2 * trail.now.atoms) }
     ensures unassigned { IfSome result (IsUnassigned trail.now.steps) }
     ensures total { result ≡ None → IsTotal trail.now.atoms trail.now.steps }
@@ -186,6 +187,7 @@ fn most_active(heap: &mut DecisionHeap, trail: &Trail) -> Option<u32>
     requires heap { heap.old.atoms ≡ trail.now.atoms }
     requires few { trail.now.atoms ≤ most_atoms }
     ensures heap { heap.new.atoms ≡ heap.old.atoms }
+    ensures phases { heap.new.phases ≡ heap.old.phases }
     ensures code { IfSome result (λ literal. literal < 2 * trail.now.atoms) }
     ensures unassigned { IfSome result (IsUnassigned trail.now.steps) }
 {

@@ -55,7 +55,7 @@ pub record IsReady (solver : Solver) : Type 0 where
   pub assumed : DecidesAssumed solver.assumed.items solver.trail.steps
   pub cursor : IsCursor solver.assumed.items solver.trail.steps solver.cursor solver.held
 
--- nothing that callers see has changed but the trail
+-- nothing that callers see has changed but the trail, counts that grew, and the clauses up to their meaning
 pub record Stays (old new : Solver) : Type 0 where
   pub ready : IsReady new
   pub meaning : SameMeaning old.book.clauses new.book.clauses

@@ -7,8 +7,8 @@ use Rattle.asp_search.specs.declared.stage.Stage.TheVariants.{New, Begun, Found,
 use Rattle.asp_search.specs.Meaning.{SatisfiesAll, AllTrue, AddsClause, SameMeaning}
 use Rattle.asp_search.specs.Found.{assignment_of}
 
--- `clauses` has the meaning of the added ones that hold, `firm` that of the firm ones among them; `trail` has the literals that are true, in the order in which they were
--- placed; `count` is how many were placed since the search began, `decisions` how many were decided since it was made;
+-- `clauses` has the meaning of the added ones that hold, `firm` that of the firm ones among them; `trail` has the literals that
+-- are true, in the order in which they were placed; `count` is how many were placed since the search began, `decisions` how many were decided since it was made;
 -- `conflicts` is how many conflicts taught a clause since then, and `interval` after how many learned clauses are dropped next;
 -- `ordered` is how `next` was asked since the search began, none before its first call
 pub record SearchState : Type 0 where

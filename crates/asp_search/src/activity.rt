@@ -6,6 +6,7 @@ ghost use Rattle.std.specs.Prelude.{◌≡◌, ◌+◌, ◌<◌, ◌≤◌, ◌^
 ghost use Rattle.asp_search.specs.ClauseActivity.{IsLater};
 
 use crate::NoMemory;
+use asp_clauses::Book;
 use std::alloc::Global;
 use std::marker::Model;
 
@@ -89,6 +90,8 @@ impl ClauseActivity {
     pub fn list(&mut self, clause: u32) -> Result<(), NoMemory>
         ensures { IsLater self.old self.new }
     {
+        // No clause has a higher number.
+        self.activities.truncate(clause as usize);
         self.total = self.total.saturating_add(1);
         self.conflicts = self.conflicts.saturating_add(1);
         for _place in self.activities.len()..clause as usize {
@@ -105,7 +108,9 @@ impl ClauseActivity {
             Some(activity) => *activity,
             None => 0,
         };
-        let inactivity = u32::MAX - (activity >> 25).min(u64::from(u32::MAX)) as u32;
+        // About a millionth of what the next conflict adds: an activity is some thousand bumps at most, so it fits 32 bits.
+        let unit = (self.bump >> 20).max(1);
+        let inactivity = u32::MAX - (activity / unit).min(u64::from(u32::MAX)) as u32;
         (u64::from(levels) << 32) | u64::from(inactivity)
     }
 
@@ -133,6 +138,22 @@ impl ClauseActivity {
         self.conflicts = 0;
         self.interval = self.interval.saturating_add(self.interval / GROWTH);
         true
+    }
+
+    /// Gives the activities of the firm clauses the numbers that these get when the book settles. It goes over the clauses
+    /// from the first loose one on, as the book does.
+    pub fn keep_firm(&mut self, book: &Book)
+        ensures { self.new ≡ self.old }
+    {
+        let mut next = book.firm() as usize;
+        for clause in book.firm()..book.len() {
+            let place = clause as usize;
+            if place < self.activities.len() && next <= place && !book.kind(clause).loose {
+                self.activities[next] = self.activities[place];
+                next += 1;
+            }
+        }
+        self.activities.truncate(next);
     }
 
     /// Gives the activities of the clauses that stayed their new numbers.

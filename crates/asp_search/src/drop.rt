@@ -1,4 +1,5 @@
-//! Clauses are dropped: loose ones where a search begins again, and the worse half of the learned ones at growing intervals.
+//! Clauses are dropped: loose ones where a search begins again, and about half of the learned ones, the worse ones,
+//! at growing intervals.
 
 ghost use Rattle.std.specs.Prelude.{◌≡◌, ◌+◌, ◌*◌, ◌/◌, ◌<◌, ◌≤◌, ◌^◌, [], length, map, IfOk};
 ghost use Rattle.asp_clauses.specs.Trail.{TrailState};

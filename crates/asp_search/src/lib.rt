@@ -4,8 +4,8 @@
 //! - The assumptions are decided first, one level each; then the atom of the highest activity, with the phase that it
 //!   had last. Propagation by two watched literals places what follows.
 //! - A false clause is resolved with the reasons of its literals, backwards along the trail, until one literal of its
-//!   level is left: the first unique implication point. The clause that is learned follows from the clauses alone, so it
-//!   stays for later searches.
+//!   level is left: the first unique implication point. The clause that is learned follows from the clauses alone. Where
+//!   it rests on a loose one it is loose too; else it stays for later searches.
 //! - The search goes back to the second highest level of the learned clause, which then implies its one literal; or less
 //!   far, where assumptions would have to be decided again.
 //!   There are no restarts: each jump raises the number that the trail is in base 3, so every search ends.
@@ -20,12 +20,14 @@
 //! | `ground` | whether loose clauses are reasons before the first decision |
 //! | `minimize` | what follows from the marked literals, so that the learned clause needn't name it |
 //! | `activity` | how active clauses were, and how many decision levels they have |
-//! | `drop` | learned clauses are dropped at growing intervals |
+//! | `drop` | loose clauses are dropped where a search begins, learned ones at growing intervals |
 //! | `jump` | the learned clause is added, and the trail goes back to where it implies a literal |
 //! | `cores` | the assumptions that a false assumption rests on |
 //! | `clause` | a clause as callers give it: repeated literals, both literals of an atom |
 //! | `steps` | one step: propagate, then learn from a conflict or decide |
-//! | `search` | the calls: `new`, `add`, `begin`, `next`, `value`, `budget` |
+//! | `outcome`, `fault` | what a search answers, and why it gives no answer |
+//! | `stage` | where a search stands between two calls |
+//! | `search` | the calls: `new`, `add`, `add_loose`, `begin`, `next`, `value`, `budget` |
 //! | `laws` | what is kept of the added clauses |
 #![tactic(auto)]
 

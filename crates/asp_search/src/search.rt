@@ -29,8 +29,8 @@ use std::marker::Model;
 /// | stage | call | answer | new stage |
 /// |---|---|---|---|
 /// | any | `begin` | ok | `Begun` |
-/// | `Found` | `add` | ok | `Extended` |
-/// | another | `add` | ok | the same |
+/// | `Found` | `add`, `add_loose` | ok | `Extended` |
+/// | another | `add`, `add_loose` | ok | the same |
 /// | `Begun`, `Extended` | `next` | `Found` | `Found` |
 /// | `Begun`, `Extended` | `next` | `Core` | `Begun` |
 /// | `Begun`, `Extended` | `next` | spent, no memory | `Spent`, `NoMemory` |
@@ -121,9 +121,9 @@ impl Search {
         Ok(())
     }
 
-    /// Begins a search under assumptions. The loose clauses are dropped. What was learned from firm clauses stays, and so do
-    /// activities and phases. `NoMemory`: memory was refused; the search is as
-    /// it was.
+    /// Begins a search under assumptions. The loose clauses are dropped, and what was learned from them; the other learned
+    /// clauses stay, and so do activities and phases. It takes the time of the assumptions, of the literals that are placed, and
+    /// of the clauses from the first loose one on. `NoMemory`: memory was refused; the search is as it was.
     pub fn begin(&mut self, alloc: Global, assume: &[u32]) -> Result<(), NoMemory>
         requires codes { AreCodes (2 * self.old.atoms) assume.now }
         requires different { AreDifferent assume.now }
@@ -136,6 +136,7 @@ impl Search {
         self.stage = Stage::Begun;
         unwind(&mut self.solver.heap, &self.solver.trail, 0);
         self.solver.trail.reset();
+        self.solver.activity.keep_firm(&self.solver.book);
         drop_loose(&mut self.solver.book, &self.solver.trail);
         self.solver.looked = 0;
         self.solver.ground_loose = false;
@@ -221,8 +222,9 @@ impl Search {
         self.solver.activity.total()
     }
 
-    /// Has half of the learned clauses dropped after so many conflicts, and then at intervals that grow by a part of themselves: a
-    /// short interval, as for tests, forgets more. It changes how long a search takes and no answer's meaning.
+    /// Has about half of the learned clauses of several levels dropped after so many conflicts, and then at intervals that
+    /// grow by a part of themselves: a short interval, as for tests, forgets more. It changes how long a search takes and no
+    /// answer's meaning.
     pub fn set_interval(&mut self, conflicts: u64)
         ensures { self.new ≡ record self.old { interval = conflicts } }
     {

@@ -61,8 +61,9 @@ returns-clause-begun c =
       held = 0;
       looked = 0;
       ground_loose = false;
+      activity = c.keep_firm.new.self;
     } in
     let new : Inside = record old { solver = solver; ordered = None; stage = Begun } in
     let same : firm_of solver.book ≡ firm_of s.book = rw (c.drop_loose.ensures.clauses, c.drop_loose.ensures.kinds) (firm_is_firm s.book.kinds s.book.clauses) in
     subst (λ (before : SearchState). state_of new ≡ record before { count = 0; clauses = before.firm; assumed = c.args.assume.now; trail = []; ordered = None; stage = Begun }) c.self.view_is
-    (begun_view old new c.args.assume.now c.reset.ensures.atoms c.reset.ensures.budget c.reset.ensures.count c.reset.ensures.empty c.drop_loose.ensures.clauses same c.in_ok-assumed.ensures.items refl refl refl refl)
+    (begun_view old new c.args.assume.now c.reset.ensures.atoms c.reset.ensures.budget c.reset.ensures.count c.reset.ensures.empty c.drop_loose.ensures.clauses same c.in_ok-assumed.ensures.items refl refl refl c.keep_firm.ensures)
