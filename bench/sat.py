@@ -1,7 +1,10 @@
 #!/usr/bin/env python3
 """Compares sat_bench with Debian's minisat on generated formulas, and prints a Markdown table of ratios.
 
-    bench/sat.py [PROGRAM]      PROGRAM: the built sat_bench (default: crates/sat_bench/out/sat_bench)
+    bench/sat.py [PROGRAM]                  PROGRAM: the built sat_bench (default: crates/sat_bench/out/sat_bench)
+    bench/sat.py --only FAMILY [PROGRAM]    only the rows whose name has this text in it
+    bench/sat.py --searches N [PROGRAM]     instead N searches over 100,000 clauses, each under 50 assumptions and with 20 loose
+                                            clauses, and one such search: what is between the two is what begins cost
 
 Each formula is put to sat_bench, to minisat as it comes and to minisat without restarts, one after the other, and their
 answers are compared. Times are those of the processor (user and system), memory is the peak of the resident set as /usr/bin/time tells it, and propagations are
@@ -9,6 +12,7 @@ minisat's own count of propagations and sat_bench's count of placements. Formula
 runs compare. A program that takes more than a minute is stopped.
 """
 
+import argparse
 import os
 import random
 import re
@@ -135,6 +139,25 @@ def families():
     yield "3 colours, 400 nodes", [colouring(400, seed) for seed in range(10)]
 
 
+def write_searches(path, searches):
+    """A text of so many searches over 100,000 clauses of three of 20,000 atoms, each with a literal that is positive. The first and
+    the last assumption of a search exclude each other by a loose clause, so it ends as soon as it has placed the assumptions."""
+    source = random.Random("searches")
+    atoms = 20_000
+    with open(path, "w", encoding="ascii") as file:
+        file.write(f"p cnf {atoms} 100000\n")
+        for _ in range(100_000):
+            first, *others = source.sample(range(1, atoms + 1), 3)
+            literals = [first, *(atom if source.random() < 0.5 else -atom for atom in others)]
+            file.write(" ".join(map(str, literals)) + " 0\n")
+        for _ in range(searches):
+            assumed = sorted(source.sample(range(1, atoms + 1), 50))
+            file.write("a " + " ".join(map(str, assumed)) + " 0\n")
+            file.write(f"l {-assumed[0]} {-assumed[-1]} 0\n")
+            for _ in range(19):
+                file.write("l " + " ".join(str(atom) for atom in source.sample(range(1, atoms + 1), 3)) + " 0\n")
+
+
 def write(path, formula):
     atoms, clauses = formula
     with open(path, "w", encoding="ascii") as file:
@@ -155,6 +178,8 @@ def run(command, path, counts):
         text = out.read()
         kilobytes = int(memory.read())
     answer = re.search(r"^(UNSATISFIABLE|SATISFIABLE)$", text, re.MULTILINE)
+    if "Error" in text:
+        print(text, file=sys.stderr)
     numbers = [int(found.group(1)) if (found := re.search(pattern, text)) else None for pattern in counts]
     return Run(answer and answer.group(1), usage.ru_utime + usage.ru_stime, kilobytes, *numbers)
 
@@ -198,8 +223,30 @@ def row(name, runs):
     return "| " + " | ".join(cells) + " |"
 
 
+def time_searches(program, searches):
+    """Prints what one search over many clauses takes, and what so many take."""
+    print("| searches | seconds | placements | memory |")
+    print("|---|---|---|---|")
+    ended = True
+    with tempfile.TemporaryDirectory() as folder:
+        path = Path(folder) / "searches.cnf"
+        for count in (1, searches):
+            write_searches(path, count)
+            mine = ours(program, path)
+            ended = ended and mine.answer is not None
+            print(f"| {count:,} | {mine.seconds:.2f}{'' if mine.answer else ', stopped'} | {mine.propagations} | {mine.kilobytes // 1000} MB |", flush=True)
+    return 0 if ended else 1
+
+
 def main():
-    program = Path(sys.argv[1] if len(sys.argv) > 1 else ROOT / "crates/sat_bench/out/sat_bench").resolve()
+    parser = argparse.ArgumentParser()
+    parser.add_argument("program", nargs="?", default=ROOT / "crates/sat_bench/out/sat_bench", type=Path)
+    parser.add_argument("--only", default="")
+    parser.add_argument("--searches", type=int)
+    arguments = parser.parse_args()
+    program = arguments.program.resolve()
+    if arguments.searches and program.is_file() and shutil.which("/usr/bin/time"):
+        return time_searches(str(program), arguments.searches)
     for needed, package in (("minisat", "minisat"), ("/usr/bin/time", "time")):
         if not shutil.which(needed):
             print(f"skipped: {needed} isn't installed (Debian's package {package})")
@@ -213,6 +260,8 @@ def main():
     with tempfile.TemporaryDirectory() as folder:
         path = Path(folder) / "formula.cnf"
         for name, formulas in families():
+            if arguments.only not in name:
+                continue
             runs = []
             for formula in formulas:
                 write(path, formula)

@@ -1,35 +1,33 @@
 //! Reads a formula in DIMACS form from standard input, searches for an assignment that satisfies it, and prints what
-//! was found and what it took.
+//! was found and what it took. Lines of the text may ask for several searches over its clauses: then it prints the last answer,
+//! what all of them took, and how many found an assignment.
 #![tactic(auto)]
 
 mod dimacs;
-
-ghost use Rattle.std.specs.Prelude.{◌≡◌, ◌≢◌, ◌<◌, ◌^◌};
-ghost use Rattle.asp_search.specs.State.{SearchState};
+mod literals;
+mod runs;
 
 use anyhow::Result;
-use asp_search::{Outcome, Search};
-use dimacs::read;
-use std::alloc::Global;
+use dimacs::search_all;
 use std::io;
 
 fn main(rt: HostRuntime) -> Result<()> {
     let text = io::read_to_string(rt.alloc(), rt.stdin())?;
-    let mut search = read(rt.alloc(), text.as_str())?;
-    let answer = match solve(rt.alloc(), &mut search)? {
-        Outcome::Found => "SATISFIABLE",
-        Outcome::Core(_) => "UNSATISFIABLE",
+    let runs = search_all(rt.alloc(), text.as_str())?;
+    let answer = if runs.last_found {
+        "SATISFIABLE"
+    } else {
+        "UNSATISFIABLE"
     };
     println!(rt; "{answer}")?;
-    let conflicts = search.conflicts();
-    let decisions = search.decisions();
-    let placements = search.placements();
+    let conflicts = runs.conflicts;
+    let decisions = runs.decisions;
+    let placements = runs.placements;
     println!(rt; "decisions {decisions} conflicts {conflicts} placements {placements}")?;
+    if runs.searches > 1 {
+        let searches = runs.searches;
+        let found = runs.found;
+        println!(rt; "searches {searches} found {found}")?;
+    }
     Ok(())
-}
-
-/// Searches without assumptions.
-fn solve(alloc: Global, search: &mut Search) -> Result<Outcome> {
-    search.begin(alloc, &[])?;
-    Ok(search.next(alloc, false)?)
 }

@@ -99,20 +99,16 @@ fn is_right_twice(alloc: Global, probe: &mut Probe, clauses: &[u32]) -> Result<b
     Ok(is_right(answer, clauses, 0) && first == first_of(clauses))
 }
 
-/// Whether a search over three atoms, which places fewer than 3^3 literals, is right; `forgets` has learned clauses dropped at
-/// every conflict.
-fn try_clauses(alloc: Global, clauses: &[u32], forgets: bool) -> Result<bool, Fail> {
+/// Whether a search over three atoms, which places fewer than 3^3 literals, is right.
+fn try_clauses(alloc: Global, clauses: &[u32]) -> Result<bool, Fail> {
     let mut probe = probe_of(alloc, 3, 27, clauses)?;
-    probe.forget_if(forgets);
     is_right_twice(alloc, &mut probe, clauses)
 }
 
-/// Whether searches are right for the formula of a number.
+/// Whether a search is right for the formula of a number.
 fn try_formula(alloc: Global, number: u32) -> Result<bool, Fail> {
     let clauses = formula_of(alloc, number)?;
-    let keeping = try_clauses(alloc, clauses.as_slice(), false)?;
-    let forgetting = try_clauses(alloc, clauses.as_slice(), true)?;
-    Ok(keeping && forgetting)
+    try_clauses(alloc, clauses.as_slice())
 }
 
 // All formulas of up to three atoms and four clauses: a clause is one of the 27 sets of literals without both of an
@@ -152,13 +148,18 @@ fn draw_assumptions(seed: &mut u32) -> u32 {
     assumed
 }
 
-/// Whether a search is right under assumptions and then without.
+/// Whether a search is right under assumptions and then without; `forgets` has learned clauses dropped at every conflict
+/// from the start, else from the second answer on.
 fn is_right_freed(
     alloc: Global,
     probe: &mut Probe,
     clauses: &[u32],
     assumed: u32,
+    forgets: bool,
 ) -> Result<bool, Fail> {
+    if forgets {
+        probe.forget();
+    }
     let under = ask(alloc, probe, assumed)?;
     probe.forget();
     let free = ask(alloc, probe, 0)?;
@@ -166,23 +167,25 @@ fn is_right_freed(
 }
 
 /// Whether a search over eight atoms, which places fewer than 3^8 literals, is right.
-fn try_assumed(alloc: Global, clauses: &[u32], assumed: u32) -> Result<bool, Fail> {
+fn try_assumed(alloc: Global, clauses: &[u32], assumed: u32, forgets: bool) -> Result<bool, Fail> {
     let mut probe = probe_of(alloc, 8, 6561, clauses)?;
-    is_right_freed(alloc, &mut probe, clauses, assumed)
+    is_right_freed(alloc, &mut probe, clauses, assumed, forgets)
 }
 
 /// Whether a search is right for a formula and assumptions that are drawn.
-fn try_random(alloc: Global, seed: &mut u32, clauses: u32) -> Result<bool, Fail> {
+fn try_random(alloc: Global, seed: &mut u32, clauses: u32, forgets: bool) -> Result<bool, Fail> {
     let formula = draw_formula(alloc, seed, clauses)?;
     let assumed = draw_assumptions(seed);
-    try_assumed(alloc, formula.as_slice(), assumed)
+    try_assumed(alloc, formula.as_slice(), assumed, forgets)
 }
 
 #[test]
 fn agrees_on_random_formulas(rt: HostRuntime) -> Result<(), Fail> {
     let mut seed = 1;
     for round in 0..500u32 {
-        expect_number(try_random(rt.alloc(), &mut seed, round % 50)?, round)?;
+        let forgets = round / 50 % 2 == 1;
+        let agrees = try_random(rt.alloc(), &mut seed, round % 50, forgets)?;
+        expect_number(agrees, round)?;
     }
     Ok(())
 }

@@ -72,13 +72,6 @@ impl Probe {
         self.search.set_interval(1);
     }
 
-    /// The same, where it is so wished.
-    pub fn forget_if(&mut self, wished: bool) {
-        if wished {
-            self.forget();
-        }
-    }
-
     /// Begins under assumptions, and fails where they aren't ascending literals of the atoms.
     pub fn begin(&mut self, alloc: Global, assumed: &[u32]) -> Result<(), Fail> {
         self.begin_as(alloc, assumed, false)

@@ -22,6 +22,8 @@ enum Act {
     Add(&'static [u32]),
     /// Adds the clause of these literals until the search begins anew.
     AddLoose(&'static [u32]),
+    /// Has learned clauses dropped at every conflict from now on.
+    Forget,
     /// Begins anew under the assumption of these literals.
     Begin(&'static [u32]),
     /// The next answer is this one.
@@ -47,7 +49,7 @@ enum Act {
 /// A name, how many atoms there are, the budget, and what is done one after the other.
 type Script = (&'static str, u32, u64, &'static [Act]);
 
-const SCRIPTS: [Script; 10] = [
+const SCRIPTS: [Script; 12] = [
     // Atom 0 or atom 1, and not atom 0: both literals are implied.
     (
         "finds the one assignment",
@@ -121,7 +123,8 @@ const SCRIPTS: [Script; 10] = [
             Act::Right(&[0b1010, 0b0110]),
         ],
     ),
-    // All four clauses over two atoms: not atom 0 implies atom 1, which is a conflict, and so is atom 0 then.
+    // All four clauses over two atoms: not atom 0 implies atom 1, which is a conflict, and so is atom 0 then. That one is
+    // learned, and holds without a decision when the search begins again.
     (
         "learns from a conflict",
         2,
@@ -133,6 +136,12 @@ const SCRIPTS: [Script; 10] = [
             Act::Add(&[0, 2]),
             Act::Answer(Answer::Core(0, 0)),
             Act::Placed(1, 4),
+            Act::Conflicts(1),
+            Act::Clauses(5),
+            Act::Begin(&[]),
+            Act::Clauses(5),
+            Act::Answer(Answer::Core(0, 0)),
+            Act::Placed(1, 2),
             Act::Conflicts(1),
         ],
     ),
@@ -176,6 +185,50 @@ const SCRIPTS: [Script; 10] = [
             Act::Begin(&[]),
             Act::Clauses(1),
             Act::Right(&[0b1010]),
+        ],
+    ),
+    // All four clauses over two atoms, one of them loose: atom 0 is learned from it, and goes with it.
+    (
+        "drops what a loose clause taught",
+        2,
+        9,
+        &[
+            Act::Add(&[1, 3]),
+            Act::AddLoose(&[1, 2]),
+            Act::Add(&[0, 3]),
+            Act::Add(&[0, 2]),
+            Act::Answer(Answer::Core(0, 0)),
+            Act::Conflicts(1),
+            Act::Begin(&[]),
+            Act::Clauses(3),
+            Act::Right(&[0b1010, 0b1001, 0b0101]),
+        ],
+    ),
+    // The first three atoms aren't all true and not all false, by way of the last one. Each conflict teaches that of three
+    // levels, the first and the third the same; what was learned before is no reason then, and is dropped as the older one.
+    (
+        "drops a learned clause",
+        4,
+        99,
+        &[
+            Act::Forget,
+            Act::Add(&[0, 2, 4, 7]),
+            Act::Add(&[0, 2, 4, 6]),
+            Act::Add(&[1, 3, 5, 7]),
+            Act::Add(&[1, 3, 5, 6]),
+            Act::Begin(&[1, 3, 5]),
+            Act::Answer(Answer::Core(0b10_1010, 3)),
+            Act::Conflicts(1),
+            Act::Clauses(5),
+            Act::Begin(&[0, 2, 4]),
+            Act::Clauses(5),
+            Act::Answer(Answer::Core(0b1_0101, 3)),
+            Act::Conflicts(2),
+            Act::Clauses(5),
+            Act::Begin(&[1, 3, 5]),
+            Act::Answer(Answer::Core(0b10_1010, 3)),
+            Act::Conflicts(3),
+            Act::Clauses(5),
         ],
     ),
 ];
@@ -226,6 +279,7 @@ fn does(alloc: Global, probe: &mut Probe, act: &Act) -> Result<bool, Fail> {
     match act {
         Act::Add(clause) => probe.add(alloc, clause)?,
         Act::AddLoose(clause) => probe.add_loose(alloc, clause)?,
+        Act::Forget => probe.forget(),
         Act::Begin(assumed) => probe.begin(alloc, assumed)?,
         Act::AddChain => add_chain(alloc, probe)?,
         Act::AddLongest => add_longest(alloc, probe)?,
