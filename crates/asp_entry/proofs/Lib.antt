@@ -1,2 +1,5 @@
+pub mod CubeLiterals
+pub mod Marking
 pub mod Merging
+pub mod Taking
 pub mod Truths

@@ -3,6 +3,7 @@ use Rattle.std.specs.Prelude.{ℕ, ◌⊎◌, Bool, nat_lt, List, [], ◌∷◌,
 use Rattle.std.specs.List.{list_all}
 use Rattle.asp_defs.specs.declared.ground.Lit.{Lit}
 use Rattle.asp_defs.specs.Lists.{IsIn}
+use Rattle.asp_defs.specs.Interpretations.{holds}
 use Rattle.asp_defs.specs.Games.{ascends}
 use Rattle.asp_defs.specs.Entries.{cube_holds}
 
@@ -13,6 +14,10 @@ lits_ascend lits = ascends (map (λ l. l.atom) lits)
 -- whether the atom of each literal is below a count
 abbrev pub are_lits_below : ℕ → List Lit → Bool
 are_lits_below count lits = list_all (λ l. nat_lt l.atom count) lits
+
+-- the literal of an atom as it is in an interpretation
+abbrev pub literal_in : List ℕ → ℕ → Lit
+literal_in I a = record { atom = a; positive = holds I a }
 
 -- some set is held by both
 pub record HaveCommonSet (these those : List Lit) : Type 0 where

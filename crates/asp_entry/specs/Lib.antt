@@ -1,1 +1,3 @@
 pub mod Cubes
+pub mod Marks
+pub mod Taken

@@ -1,9 +1,10 @@
 //! Cubes of outer atoms.
-ghost use Rattle.std.specs.Prelude.{◌≡◌, ◌+◌, ◌<◌, ◌≤◌, ◌&&◌, ℕ, List, [], length, IsTrue, IsOk, IfOk, OnOk, OnErr};
+ghost use Rattle.std.specs.Prelude.{◌≡◌, ◌+◌, ◌<◌, ◌≤◌, ◌&&◌, ℕ, List, [], length, map, IsTrue, IsOk, IfOk, OnOk, OnErr};
 ghost use Rattle.asp_bits.specs.Places.{true_places};
 ghost use Rattle.asp_defs.specs.Entries.{lit_true, cube_holds};
-ghost use Rattle.asp_entry.specs.Cubes.{lits_ascend, are_lits_below, HaveCommonSet, HasMembersOfBoth};
+ghost use Rattle.asp_entry.specs.Cubes.{lits_ascend, literal_in, are_lits_below, HaveCommonSet, HasMembersOfBoth};
 
+use crate::literals::literals;
 use crate::merge::merge;
 use asp_bits::Bits;
 use asp_defs::{Lit, NoMemory};
@@ -48,6 +49,18 @@ impl Cube {
         ensures fits { length lits.now ≤ 8 → IsOk result }
     {
         let lits = SmallVec::from_slice(alloc, lits)?;
+        Ok(Cube { lits })
+    }
+
+    /// The cube of the atoms at true places, each as it is in `set`. `NoMemory`: there are more than eight, and memory was
+    /// refused.
+    pub fn of_places(alloc: Global, atoms: &Bits, set: &Bits) -> Result<Cube, NoMemory>
+        requires { length atoms.now ≡ length set.now }
+        ensures lits { IfOk result
+            (λ cube. cube ≡ map (literal_in (true_places set.now)) (true_places atoms.now)) }
+        ensures ascending { IfOk result (λ cube. IsTrue (lits_ascend cube)) }
+    {
+        let lits = literals(alloc, atoms, set)?;
         Ok(Cube { lits })
     }
 

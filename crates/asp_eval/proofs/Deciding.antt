@@ -1,9 +1,9 @@
 -- That atoms decide the value of an outer move, and that their literals are a cube of that value.
-use Rattle.std.proofs.Common.{◌≡◌, refl, sym, ap, ◌∙◌, subst, ℕ, zero, suc, ◌+◌, ◌-◌, ◌<◌, nat_lt, get_or, inl, inr, Bool, true, false, not, ◌&&◌, ◌||◌, cond, List, [], ◌∷◌, ◌++◌, length, map, arith}
+use Rattle.std.proofs.Common.{◌≡◌, refl, sym, ap, ◌∙◌, subst, ℕ, zero, suc, ◌+◌, ◌-◌, ◌<◌, nat_lt, get_or, inl, inr, Bool, true, false, not, ◌&&◌, ◌||◌, List, [], ◌∷◌, ◌++◌, length, map, arith}
 use Rattle.std.specs.List.{list_all, list_any}
 use Rattle.asp_bits.specs.Places.{true_places}
 use Rattle.asp_reduct.specs.Bounds.{are_below, is_rule_below}
-use Rattle.asp_reduct.proofs.Truths.{get_or-member, ascends-true_from}
+use Rattle.asp_reduct.proofs.Truths.{get_or-member}
 use Rattle.asp_defs.specs.declared.ground.GroundRule.{GroundRule}
 use Rattle.asp_defs.specs.declared.ground.Game.{Game}
 use Rattle.asp_defs.specs.declared.ground.Lit.{Lit}
@@ -12,16 +12,18 @@ use Rattle.asp_defs.specs.Interpretations.{holds}
 use Rattle.asp_defs.specs.Truth.{body_true, satisfies, is_model}
 use Rattle.asp_defs.specs.Games.{level_count, base, rules_of, rule_atoms, ascends, within, is_subset, is_constraint, IsValid}
 use Rattle.asp_defs.specs.Values.{value}
-use Rattle.asp_defs.specs.Entries.{lit_true, cube_holds, stands_in_rules, stands_in_bounds}
+use Rattle.asp_defs.specs.Entries.{cube_holds, stands_in_rules, stands_in_bounds}
 use Rattle.asp_defs.specs.Games.{bounds_of}
-use Rattle.asp_defs.proofs.Lists.{both, and_true, either, or_left, or_right, true_or_false, not_true, not_false, all_at, all_from, any_at, any_from, append_left, append_right, map_at, map_from}
+use Rattle.asp_defs.proofs.Lists.{both, and_true, either, or_left, or_right, true_or_false, not_true, not_false, all_at, all_from, any_at, any_from, append_left, append_right, map_at}
 use Rattle.asp_defs.proofs.Subsets.{true_is_not_false, holds_at, holds_from}
 use Rattle.asp_defs.proofs.CellLaws.{subset_from}
 use Rattle.asp_defs.proofs.Irrelevance.{base-up, base-next}
 use Rattle.asp_defs.proofs.LastLevel.{constraints_decide}
-use Rattle.asp_entry.specs.Cubes.{lits_ascend}
+use Rattle.asp_entry.specs.Cubes.{literal_in}
+use Rattle.asp_entry.specs.Marks.{IsPlaces}
+use Rattle.asp_entry.proofs.CubeLiterals.{literals-held, literals-agree, literals-ascend}
 use Rattle.asp_eval.specs.Broken.{rule_at, IsBroken}
-use Rattle.asp_eval.specs.Covers.{has_chosen, is_covered, IsPlaces, IsOuterBody, literal_in, IsJudgement}
+use Rattle.asp_eval.specs.Covers.{has_chosen, is_covered, IsOuterBody, IsJudgement}
 use Rattle.asp_eval.specs.Covering.{IsWithin, IsCovering}
 use Rattle.asp_eval.specs.Decided.{AgreeOn, IsDecided}
 
@@ -206,33 +208,6 @@ covering_decides g I atoms n outer rules count values valid rules_are atoms_are 
     }
 
 -- ---- cubes
-
-true_alike : (p : Bool) → cond p p (not p) ≡ true
-true_alike true = refl
-true_alike false = refl
-
-alike : (p m : Bool) → cond p m (not m) ≡ true → m ≡ p
-alike true m h = h
-alike false true h = absurd (cc)
-alike false false h = refl
-
-literals-held : (I C : List ℕ) → cube_holds (map (literal_in I) C) I ≡ true
-literals-held I [] = refl
-literals-held I (a ∷ C) = and_true (lit_true I (literal_in I a)) (cube_holds (map (literal_in I) C) I) (true_alike (holds I a)) (literals-held I C)
-
-literals-agree : (I C M : List ℕ) → cube_holds (map (literal_in I) C) M ≡ true → AgreeOn C I M
-literals-agree I C M h a i =
-    alike (holds I a) (holds M a)
-    (all_at (lit_true M) (map (literal_in I) C) (literal_in I a) h (map_from (literal_in I) C a (holds_at C a i)))
-
--- the literals' atoms ascend
-atoms-of : (I C : List ℕ) → map (λ (l : Lit). l.atom) (map (literal_in I) C) ≡ C
-atoms-of I [] = refl
-atoms-of I (a ∷ C) = ap (λ xs. a ∷ xs) (atoms-of I C)
-
-pub literals-ascend : (I : List ℕ) (values : List Bool) (lits : List Lit) → lits ≡ map (literal_in I) (true_places values) → lits_ascend lits ≡ true
-literals-ascend I values lits lits_are =
-    ap lits_ascend lits_are ∙ (ap ascends (atoms-of I (true_places values)) ∙ ascends-true_from 0 values)
 
 -- the literals of the atoms that decide are a judgement
 pub judgement : (g : Game) (I : List ℕ) (count : ℕ) (verdict : Bool) (values : List Bool) (lits : List Lit) → is_subset I (base g (level_count g)) ≡ true

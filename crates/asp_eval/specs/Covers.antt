@@ -14,16 +14,6 @@ use Rattle.asp_defs.specs.Entries.{cube_holds, stands_at}
 use Rattle.asp_entry.specs.Cubes.{lits_ascend}
 use Rattle.asp_defs.specs.History.{agrees}
 
--- values are true at the places of these atoms alone
-pub record IsPlaces (atoms : List ℕ) (count : ℕ) (values : List Bool) : Type 0 where
-  pub as_many : length values ≡ count
-  pub each : (a : ℕ) → holds (true_places values) a ≡ holds atoms a
-
--- those of the atoms that pass a test were marked beside the marks before
-pub record Marks (test : ℕ → Bool) (atoms : List ℕ) (before now : List Bool) : Type 0 where
-  pub as_many : length now ≡ length before
-  pub each : (a : ℕ) → holds (true_places now) a ≡ (holds (true_places before) a || (test a && holds atoms a))
-
 -- the marks are the atoms of a body that are in B
 pub record IsOuterBody (B : List ℕ) (r : GroundRule) (count : ℕ) (values : List Bool) : Type 0 where
   pub as_many : length values ≡ count
@@ -47,10 +37,6 @@ is_covered B C I r =
 pub record AreRuleAtoms (B C : List ℕ) (rules : List GroundRule) : Type 0 where
   pub outer : (a : ℕ) → holds C a ≡ true → holds B a ≡ true
   pub stand : (a : ℕ) → holds C a ≡ true → list_any (λ r. holds (rule_atoms r) a) rules ≡ true
-
--- the literal of an atom as it is in an interpretation
-abbrev pub literal_in : List ℕ → ℕ → Lit
-literal_in I a = record { atom = a; positive = holds I a }
 
 -- a verdict with literals, whose atoms ascend, that hold the move and moves of that verdict alone
 pub record IsJudgement (g : Game) (I : List ℕ) (verdict : Bool) (lits : List Lit) : Type 0 where

@@ -40,8 +40,8 @@ fn fewer(found: Option<Broken>, next: Broken) -> Broken
     }
 }
 
-/// The one of both that has fewer literals, of a broken constraint and the one at a place where that is broken too.
-fn weighed(
+/// The one that has fewer literals, of a broken constraint and the one at a place where that is broken too.
+fn fewer_at(
     found: Option<Broken>,
     rules: &[GroundRule],
     place: usize,
@@ -81,7 +81,7 @@ pub fn fewest_broken(rules: &[GroundRule], set: &Bits, outer: &Bits) -> Option<B
 {
     let mut found = None;
     for place in 0..rules.len() {
-        found = weighed(found, rules, place, set, outer);
+        found = fewer_at(found, rules, place, set, outer);
     }
     found
 }

@@ -1,5 +1,5 @@
 //! Atoms whose literals make the body of each constraint false.
-ghost use Rattle.std.specs.Prelude.{◌≡◌, ◌<◌, ◌&&◌, false, not, IsTrue, length};
+ghost use Rattle.std.specs.Prelude.{◌≡◌, false, not, IsTrue, length};
 ghost use Rattle.std.specs.List.{list_all, list_any};
 ghost use Rattle.asp_bits.specs.Places.{true_places};
 ghost use Rattle.asp_defs.specs.Interpretations.{holds};
@@ -7,12 +7,12 @@ ghost use Rattle.asp_reduct.specs.Bounds.{are_below, is_rule_below};
 ghost use Rattle.asp_eval.specs.Broken.{AreUnbroken};
 ghost use Rattle.asp_eval.specs.Covers.{has_chosen, is_covered as is_covered_by};
 ghost use Rattle.asp_eval.specs.Covering.{IsWithin, CoversRule, Covers};
-ghost use Rattle.asp_defs.specs.History.{agrees};
 ghost use Rattle.asp_defs.specs.Truth.{body_true as is_body_true};
 
-use crate::preferences::{Preferences, false_atom};
+use crate::preferences::false_atom;
 use asp_bits::Bits;
 use asp_defs::GroundRule;
+use asp_entry::{Preferences, is_chosen};
 
 /// Whether one of the atoms is false in every move: it is none of the outer ones.
 pub fn any_inner(atoms: &[u32], outer: &Bits) -> bool
@@ -25,17 +25,6 @@ pub fn any_inner(atoms: &[u32], outer: &Bits) -> bool
         }
     }
     false
-}
-
-/// Whether the atom is chosen and has this truth.
-pub fn is_chosen(atom: u32, truth: bool, set: &Bits, chosen: &Bits) -> bool
-    requires below { atom < length set.now }
-    requires same_length { length chosen.now ≡ length set.now }
-    ensures { result ≡ (agrees truth (holds (true_places set.now) atom) && holds (true_places chosen.now) atom) }
-{
-    let value = set.get(atom);
-    let picked = chosen.get(atom);
-    value == truth && picked
 }
 
 /// Whether one of the atoms is chosen and has this truth.
@@ -57,7 +46,8 @@ pub fn is_covered(rule: &GroundRule, set: &Bits, outer: &Bits, chosen: &Bits) ->
     requires below { IsTrue (is_rule_below (length set.now) rule.now) }
     requires outer { length outer.now ≡ length set.now }
     requires chosen { length chosen.now ≡ length set.now }
-    ensures { result ≡ is_covered_by (true_places outer.now) (true_places chosen.now) (true_places set.now) rule.now }
+    ensures { result ≡
+        is_covered_by (true_places outer.now) (true_places chosen.now) (true_places set.now) rule.now }
 {
     any_inner(rule.pos.as_slice(), outer)
         || any_chosen(rule.pos.as_slice(), false, set, chosen)
@@ -79,7 +69,8 @@ pub fn cover_rule(
     requires standings { length preferences.now.standings.now ≡ length set.now }
     requires inside { IsWithin (true_places set.now) (true_places outer.now) }
     requires unbroken { is_body_true (true_places set.now) rule.now ≡ false }
-    ensures { CoversRule (true_places outer.now) (true_places set.now) rule.now chosen.old chosen.new }
+    ensures { CoversRule
+        (true_places outer.now) (true_places set.now) rule.now chosen.old chosen.new }
 {
     if is_covered(rule, set, outer, chosen) {
         return;

@@ -1,16 +1,16 @@
 //! The call `evaluate`.
-ghost use Rattle.std.specs.Prelude.{◌≡◌, ◌+◌, IsTrue, IfOk, length, map};
+ghost use Rattle.std.specs.Prelude.{◌≡◌, ◌+◌, IsTrue, IfOk, length};
 ghost use Rattle.asp_bits.specs.Places.{true_places};
 ghost use Rattle.asp_defs.specs.Games.{IsValid, level_count, base, rules_of, is_subset};
-ghost use Rattle.asp_eval.specs.Covers.{literal_in, IsJudgement};
+ghost use Rattle.asp_eval.specs.Covers.{IsJudgement};
 ghost use Rattle.asp_eval.specs.Decided.{IsDecided};
 
 use crate::broken::fewest_broken;
-use crate::outer::{outer_body, places};
-use crate::thinning::covering;
+use crate::outer::outer_body;
+use crate::thinning::covering_atoms;
 use asp_bits::Bits;
-use asp_defs::{Game, GroundRule, Lit, NoMemory, Quant};
-use asp_entry::Cube;
+use asp_defs::{Game, GroundRule, NoMemory, Quant};
+use asp_entry::{Cube, places};
 use std::alloc::Global;
 
 /// The value of an outer move behind the last level, and a cube of outer moves with that value.
@@ -50,7 +50,8 @@ fn decide(alloc: Global, game: &Game, set: &Bits) -> Result<Decided, NoMemory>
     requires valid { IsValid game.now }
     requires length { length set.now ≡ length game.now.bases.atoms }
     requires set { IsTrue (is_subset (true_places set.now) (base game.now (level_count game.now))) }
-    ensures { IfOk result (λ decided. IsDecided game.now (true_places set.now) (length set.now) decided.verdict decided.atoms) }
+    ensures { IfOk result (λ decided.
+        IsDecided game.now (true_places set.now) (length set.now) decided.verdict decided.atoms) }
 {
     let rules = constraints(game);
     let outer = places(alloc, outer_atoms(game), set.len())?;
@@ -62,7 +63,7 @@ fn decide(alloc: Global, game: &Game, set: &Bits) -> Result<Decided, NoMemory>
         });
     }
     let bases = &game.bases.members.as_slice()[..game.quants.len() + 1];
-    let atoms = covering(alloc, rules, bases, last_quant(game), set, &outer)?;
+    let atoms = covering_atoms(alloc, rules, bases, last_quant(game), set, &outer)?;
     Ok(Decided {
         verdict: true,
         atoms,
@@ -78,34 +79,17 @@ fn last_quant(game: &Game) -> Quant {
         .unwrap_or(Quant::Exists)
 }
 
-/// The literals of the atoms at true places, as they are in `set`. `NoMemory`: memory was refused.
-fn literals(alloc: Global, atoms: &Bits, set: &Bits) -> Result<Vec<Lit>, NoMemory>
-    requires { length atoms.now ≡ length set.now }
-    ensures { IfOk result (λ lits. lits.items ≡ map (literal_in (true_places set.now)) (true_places atoms.now)) }
-{
-    let mut lits = Vec::new(alloc);
-    for atom in 0..atoms.len() {
-        if atoms.get(atom) {
-            lits.push(Lit {
-                atom,
-                positive: set.get(atom),
-            })?;
-        }
-    }
-    Ok(lits)
-}
-
 /// The value of an outer move behind the last level, and a cube that holds the move and moves of that value alone, all of
 /// whose atoms stand in a constraint. `NoMemory`: memory was refused.
 pub fn evaluate(alloc: Global, game: &Game, set: &Bits) -> Result<Judged, NoMemory>
     requires valid { IsValid game.now }
     requires length { length set.now ≡ length game.now.bases.atoms }
     requires set { IsTrue (is_subset (true_places set.now) (base game.now (level_count game.now))) }
-    ensures { IfOk result (λ judged. IsJudgement game.now (true_places set.now) judged.verdict judged.cube) }
+    ensures { IfOk result (λ judged.
+        IsJudgement game.now (true_places set.now) judged.verdict judged.cube) }
 {
     let decided = decide(alloc, game, set)?;
-    let lits = literals(alloc, &decided.atoms, set)?;
-    let cube = Cube::from_lits(alloc, &lits)?;
+    let cube = Cube::of_places(alloc, &decided.atoms, set)?;
     Ok(Judged {
         verdict: decided.verdict,
         cube,

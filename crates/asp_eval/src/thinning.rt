@@ -7,10 +7,11 @@ ghost use Rattle.asp_reduct.specs.Bounds.{are_below, is_rule_below};
 ghost use Rattle.asp_eval.specs.Broken.{AreUnbroken};
 ghost use Rattle.asp_eval.specs.Covering.{IsWithin, IsPart, Adds, IsThinned, IsCovering};
 
-use crate::covering::{any_inner, cover, cover_rule, is_chosen, is_covered};
-use crate::preferences::{Lateness, Preferences, false_atom, standings};
+use crate::covering::{any_inner, cover, cover_rule, is_covered};
+use crate::preferences::{false_atom, standings};
 use asp_bits::Bits;
 use asp_defs::{GroundRule, List, NoMemory, Quant};
+use asp_entry::{Preferences, Turn, is_chosen};
 use std::alloc::Global;
 
 /// How many of the atoms are chosen and have this truth.
@@ -77,7 +78,7 @@ fn add_only_cover(rule: &GroundRule, set: &Bits, outer: &Bits, chosen: &Bits, ne
 }
 
 /// Those of the chosen atoms that alone cover some body. `NoMemory`: memory was refused.
-fn needed(
+fn only_covers(
     alloc: Global,
     rules: &[GroundRule],
     set: &Bits,
@@ -94,13 +95,6 @@ fn needed(
         add_only_cover(rule, set, outer, chosen, &mut needed);
     }
     Ok(needed)
-}
-
-/// A constraint that no atom covers yet, by its place, with the atom that it gets first.
-#[derive(Clone, Copy, PartialEq, Eq, PartialOrd, Ord)]
-struct Turn {
-    atom: Lateness,
-    rule: usize,
 }
 
 /// The turn of a constraint that the atoms don't cover.
@@ -205,7 +199,7 @@ fn cover_in_turn(
 /// Those that alone cover some body come first. For each other body the first of its kept atoms is taken, unless one taken
 /// already covers it. The bodies go from the one whose first atom comes last: an atom that is taken later comes before
 /// those taken already, so it covers none of the bodies for which they were taken. `NoMemory`: memory was refused.
-fn thinned(
+fn irredundant_atoms(
     alloc: Global,
     rules: &[GroundRule],
     set: &Bits,
@@ -218,9 +212,10 @@ fn thinned(
     requires standings { length preferences.now.standings.now ≡ length set.now }
     requires inside { IsWithin (true_places set.now) (true_places outer.now) }
     requires unbroken { AreUnbroken (true_places set.now) rules.now }
-    ensures { IfOk result (IsThinned (true_places outer.now) rules.now preferences.now.kept.now (length set.now)) }
+    ensures { IfOk result
+        (IsThinned (true_places outer.now) rules.now preferences.now.kept.now (length set.now)) }
 {
-    let mut thinned = needed(alloc, rules, set, outer, preferences.kept)?;
+    let mut thinned = only_covers(alloc, rules, set, outer, preferences.kept)?;
     let turns = turns(alloc, rules, set, outer, preferences, &thinned)?;
     cover_in_turn(rules, &turns, set, outer, preferences, &mut thinned);
     Ok(thinned)
@@ -230,7 +225,7 @@ fn thinned(
 ///
 /// They are chosen among all false literals, and those that are needless in the end go. The time is linear in the lengths
 /// of the constraints and of the bases, but for a sort of the constraints that no needed atom covers. `NoMemory`: memory was refused.
-pub fn covering(
+pub fn covering_atoms(
     alloc: Global,
     rules: &[GroundRule],
     bases: &[List<u32>],
@@ -242,7 +237,8 @@ pub fn covering(
     requires outer { length outer.now ≡ length set.now }
     requires inside { IsWithin (true_places set.now) (true_places outer.now) }
     requires unbroken { AreUnbroken (true_places set.now) rules.now }
-    ensures { IfOk result (IsCovering (true_places outer.now) (true_places set.now) rules.now (length set.now)) }
+    ensures { IfOk result
+        (IsCovering (true_places outer.now) (true_places set.now) rules.now (length set.now)) }
 {
     let standings = standings(alloc, rules, bases, quant, set)?;
     let none = Bits::new(alloc, set.len())?;
@@ -256,7 +252,7 @@ pub fn covering(
         kept: &chosen,
         standings: &standings,
     };
-    let mut thinned = thinned(alloc, rules, set, outer, &second)?;
+    let mut thinned = irredundant_atoms(alloc, rules, set, outer, &second)?;
     // The thinned atoms cover all that the chosen ones did, so none is added; this stands for a proof of that.
     cover(rules, set, outer, &second, &mut thinned);
     Ok(thinned)

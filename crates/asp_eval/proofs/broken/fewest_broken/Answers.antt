@@ -5,8 +5,8 @@ use Rattle.asp_eval.proofs.broken.fewest_broken.Goals as goal
 
 pub loop-place-preserved : goal.loop-place-preserved
 loop-place-preserved c =
-    found_more (true_places c.args.set.now) c.args.rules.now c.loop-place.place c.loop-place.found c.weighed-found.result
-    (omega arith) c.loop-place.invariant c.weighed-found.ensures
+    found_more (true_places c.args.set.now) c.args.rules.now c.loop-place.place c.loop-place.found c.fewer_at-found.result
+    (omega arith) c.loop-place.invariant c.fewer_at-found.ensures
 
 pub returns : goal.returns
 returns c =

@@ -24,12 +24,12 @@ returns-in-Some c =
     c.constraints-rules.ensures c.outer_atoms.ensures c.in_ok-outer.ensures c.in-Some.ensures c.index-rules-broken.is
     (c.in_ok-outer.ensures.as_many ∙ c.len.ensures) c.in_ok-atoms.ensures
 
-pub covering-requires-clause-below : goal.covering-requires-clause-below
-covering-requires-clause-below c =
+pub covering_atoms-requires-clause-below : goal.covering_atoms-requires-clause-below
+covering_atoms-requires-clause-below c =
     constraints_below c.args.game.now c.constraints-rules.result.now (length c.args.set.now) c.requires.valid c.constraints-rules.ensures c.requires.length
 
-pub covering-requires-clause-inside : goal.covering-requires-clause-inside
-covering-requires-clause-inside c =
+pub covering_atoms-requires-clause-inside : goal.covering_atoms-requires-clause-inside
+covering_atoms-requires-clause-inside c =
     outer_within c.args.game.now (true_places c.args.set.now) c.outer_atoms.result.now c.len.result c.in_ok-outer.outer c.requires.set c.outer_atoms.ensures c.in_ok-outer.ensures
 
 pub returns : goal.returns

@@ -1,13 +1,9 @@
-use Rattle.std.proofs.Common.{length, ◌∙◌}
+use Rattle.std.proofs.Common.{length}
 use Rattle.asp_bits.specs.Places.{true_places}
-use Rattle.asp_eval.proofs.Deciding.{judgement, literals-ascend}
+use Rattle.asp_eval.proofs.Deciding.{judgement}
 use Rattle.asp_eval.proofs.judged.evaluate.Goals as goal
-
-pub from_lits-requires : goal.from_lits-requires
-from_lits-requires c =
-    literals-ascend (true_places c.args.set.now) c.in_ok-decided.decided.atoms c.deref.result.now (c.deref.ensures.value ∙ c.in_ok-lits.ensures)
 
 pub returns : goal.returns
 returns c =
     judgement c.args.game.now (true_places c.args.set.now) (length c.args.set.now) c.in_ok-decided.decided.verdict c.in_ok-decided.decided.atoms c.in_ok-cube.cube
-    c.requires.set c.in_ok-decided.ensures (c.in_ok-cube.ensures.lits ∙ (c.deref.ensures.value ∙ c.in_ok-lits.ensures))
+    c.requires.set c.in_ok-decided.ensures c.in_ok-cube.ensures.lits

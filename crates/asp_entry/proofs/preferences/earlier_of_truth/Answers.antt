@@ -1,8 +1,8 @@
 use Rattle.std.proofs.Common.{refl}
 use Rattle.asp_bits.specs.Places.{true_places}
 use Rattle.std.specs.Prelude.{Some}
-use Rattle.asp_eval.proofs.Choosing.{took, passed_by, taken_read, passed_read}
-use Rattle.asp_eval.proofs.preferences.taken.Goals as goal
+use Rattle.asp_entry.proofs.Taking.{took, passed_by, taken_read, passed_read}
+use Rattle.asp_entry.proofs.preferences.earlier_of_truth.Goals as goal
 
 pub returns-then-get-truth : goal.returns-then-get-truth
 returns-then-get-truth c =

@@ -1,6 +1,6 @@
 use Rattle.std.proofs.Common.{true, take}
-use Rattle.asp_eval.specs.Covers.{Marks}
-use Rattle.asp_eval.proofs.outer.places.Given as goal
+use Rattle.asp_entry.specs.Marks.{Marks}
+use Rattle.asp_entry.proofs.marks.places.Given as goal
 
 -- the atoms so far are marked
 abbrev pub invariant-loop-atom : goal.invariant-loop-atom

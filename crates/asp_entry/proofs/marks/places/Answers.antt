@@ -1,6 +1,6 @@
 use Rattle.std.proofs.Common.{true, arith}
-use Rattle.asp_eval.proofs.Marking.{places_more, places_are, marks_all}
-use Rattle.asp_eval.proofs.outer.places.Goals as goal
+use Rattle.asp_entry.proofs.Marking.{places_more, places_are, marks_all}
+use Rattle.asp_entry.proofs.marks.places.Goals as goal
 
 pub loop-atom-preserved : goal.loop-atom-preserved
 loop-atom-preserved c =

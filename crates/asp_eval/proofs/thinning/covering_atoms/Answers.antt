@@ -1,7 +1,7 @@
 use Rattle.std.proofs.Common.{length}
 use Rattle.asp_bits.specs.Places.{true_places}
 use Rattle.asp_eval.proofs.Choosing.{covering_is}
-use Rattle.asp_eval.proofs.thinning.covering.Goals as goal
+use Rattle.asp_eval.proofs.thinning.covering_atoms.Goals as goal
 
 pub returns : goal.returns
 returns c =

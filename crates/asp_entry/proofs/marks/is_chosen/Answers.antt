@@ -1,6 +1,6 @@
 use Rattle.std.proofs.Common.{◌&&◌, sym, ap, ◌∙◌}
-use Rattle.asp_eval.proofs.Choosing.{chosen-read}
-use Rattle.asp_eval.proofs.covering.is_chosen.Goals as goal
+use Rattle.asp_entry.proofs.Taking.{chosen-read}
+use Rattle.asp_entry.proofs.marks.is_chosen.Goals as goal
 
 pub returns-then-value-truth : goal.returns-then-value-truth
 returns-then-value-truth c =
