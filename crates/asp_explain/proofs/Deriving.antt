@@ -1,9 +1,9 @@
 -- What is marked for rules and bounds.
-use Rattle.std.proofs.Common.{◌≡◌, refl, sym, ap, ◌∙◌, subst, ℕ, ◌<◌, inl, inr, ◌⊎◌, Bool, true, false, not, ◌&&◌, ◌||◌, List, [], ◌∷◌, ◌++◌, nat_lt, Option, Some, None}
+use Rattle.std.proofs.Common.{◌≡◌, refl, sym, ◌∙◌, subst, ℕ, ◌<◌, inl, inr, ◌⊎◌, Bool, true, false, not, ◌&&◌, ◌||◌, List, [], ◌∷◌, ◌++◌, nat_lt, Option, Some, None}
 use Rattle.std.specs.List.{list_all, list_any, find, flat_map}
 use Rattle.std.proofs.lemmas.Bool.{ltb-true}
 use Rattle.asp_bits.specs.Places.{true_places}
-use Rattle.asp_reduct.specs.Bounds.{is_rule_below, is_term_below, is_bound_below}
+use Rattle.asp_reduct.specs.Bounds.{are_below, is_rule_below, is_term_below, is_bound_below}
 use Rattle.asp_reduct.proofs.Truths.{none-any}
 use Rattle.asp_reduct.proofs.Finding.{found_at, none_found, all_pass}
 use Rattle.asp_defs.specs.declared.ground.GroundRule.{GroundRule}
@@ -11,11 +11,13 @@ use Rattle.asp_defs.specs.declared.ground.Bound.{Bound}
 use Rattle.asp_defs.specs.declared.ground.Counted.{Counted}
 use Rattle.asp_defs.specs.Lists.{IsIn}
 use Rattle.asp_defs.specs.Interpretations.{holds}
-use Rattle.asp_defs.specs.Truth.{body_true, satisfies}
+use Rattle.asp_defs.specs.Truth.{body_true, satisfies, is_model}
 use Rattle.asp_defs.specs.Bounds.{term_atoms, bound_atoms}
 use Rattle.asp_defs.specs.Games.{rule_atoms}
 use Rattle.asp_defs.proofs.Lists.{both, and_true, or_left, or_right, not_true, not_false, all_at, all_from, any_at, any_from, append_at, append_left, append_right, flat_map_from}
 use Rattle.asp_defs.proofs.Subsets.{holds_at}
+use Rattle.asp_entry.specs.Taken.{IsTaken}
+use Rattle.asp_entry.proofs.Taking.{taken_below, below_none}
 use Rattle.asp_explain.specs.Resting.{is_known, are_known, has_known, is_blocked, is_safe, is_kept, may_support, is_settled}
 use Rattle.asp_explain.specs.Achieving.{MarksAtoms, MarksTerms, SettlesRules, SatisfiesRules, KeepsBounds, IsFalseAtom, IsWitness}
 use Rattle.asp_explain.proofs.Marking.{known-grows, achieves_then, recast, nothing_new, of_item, single-from}
@@ -57,28 +59,55 @@ false_second N pos neg found first second = record {
   none = λ e. and_true (list_all (holds N) pos) (list_all (λ b. not (holds N b)) neg) (all_pass (holds N) pos first) (none_found (holds N) neg (sym e ∙ second));
 }
 
-pub witness_head : (N : List ℕ) (r : GroundRule) (head : List ℕ) (a : ℕ) (found : Option ℕ) → head ≡ r.head → Some a ≡ find (holds N) head → found ≡ Some a → IsWitness N r found
-witness_head N r head a found head_is is at = record {
-  one = λ b e. inl (found_at (holds N) r.head b (sym e ∙ (at ∙ (is ∙ ap (find (holds N)) head_is))));
-  none = λ e. let never : Some a ≡ None = sym at ∙ e in absurd (cc);
-}
-
 choice_alone : (c b h : Bool) → b ≡ true → h ≡ false → c || (not b || h) ≡ c
 choice_alone true b h body head = refl
 choice_alone false true h body head = head
 choice_alone false false h body head = absurd (cc)
 
-pub witness_body : (N : List ℕ) (r : GroundRule) (head pos neg : List ℕ) (found : Option ℕ) → head ≡ r.head → pos ≡ r.pos → neg ≡ r.neg → None ≡ find (holds N) head
-    → IsFalseAtom N pos neg found → IsWitness N r found
-witness_body N r head pos neg found head_is pos_is neg_is none body =
-    let here : IsFalseAtom N r.pos r.neg found =
-    subst (λ (xs : List ℕ). IsFalseAtom N r.pos xs found) neg_is (subst (λ (xs : List ℕ). IsFalseAtom N xs neg found) pos_is body) in
-    record {
-      one = λ a e. inr (here.one a e);
-      none = λ e.
-          choice_alone r.choice (body_true N r) (list_any (holds N) r.head) (here.none e)
-          (not_true _ (none-any N r.head ∙ none_found (holds N) r.head (none ∙ ap (find (holds N)) head_is)));
-    }
+-- of the head and both parts of the body one was taken, where there is any
+witness_of : (N : List ℕ) (r : GroundRule) (of_head of_pos now : Option ℕ) → IsTaken N true r.head None of_head → IsTaken N false r.pos of_head of_pos → IsTaken N true r.neg of_pos now → IsWitness N r now
+witness_of N r of_head of_pos now first second third = record {
+  one = λ a e. elim (third.one a e) [
+    | inl late ↦ elim (second.one a late) [
+      | inl early ↦ elim (first.one a early) [ inl never ↦ absurd (cc) | inr head ↦ inl head ]
+      | inr p ↦ inr (inl p)
+    ]
+    | inr n ↦ inr (inr n)
+  ];
+  none = λ e.
+      let neg = third.none e in
+      let pos = second.none neg.0 in
+      let head = first.none pos.0 in
+      choice_alone r.choice (body_true N r) (list_any (holds N) r.head)
+      (and_true (list_all (holds N) r.pos) (list_all (λ a. not (holds N a)) r.neg)
+      (all_from (holds N) r.pos pos.1)
+      (all_from (λ a. not (holds N a)) r.neg (λ a i. not_false (holds N a) (neg.1 a i))))
+      (not_true (list_any (holds N) r.head) (none-any N r.head ∙ all_from (λ a. not (holds N a)) r.head (λ a i. not_false (holds N a) (head.1 a i))));
+}
+
+pub witness_taken : (N : List ℕ) (r : GroundRule) (head pos neg : List ℕ) (of_head of_pos now : Option ℕ) → head ≡ r.head → pos ≡ r.pos → neg ≡ r.neg
+    → IsTaken N true head None of_head → IsTaken N false pos of_head of_pos → IsTaken N true neg of_pos now → IsWitness N r now
+witness_taken N r head pos neg of_head of_pos now head_is pos_is neg_is first second third =
+    witness_of N r of_head of_pos now
+    (subst (λ (xs : List ℕ). IsTaken N true xs None of_head) head_is first)
+    (subst (λ (xs : List ℕ). IsTaken N false xs of_head of_pos) pos_is second)
+    (subst (λ (xs : List ℕ). IsTaken N true xs of_pos now) neg_is third)
+
+-- what is taken of the head, and of the positive body, is below a count where the rule is
+pub head_low : (N : List ℕ) (r : GroundRule) (head : List ℕ) (count kept : ℕ) (now : Option ℕ) → head ≡ r.head → is_rule_below count r ≡ true → kept ≡ count
+    → IsTaken N true head None now → (a : ℕ) → now ≡ Some a → a < kept
+head_low N r head count kept now head_is below same taken =
+    taken_below N true head count kept None now same (below_none kept)
+    (subst (λ (xs : List ℕ). are_below count xs ≡ true) (sym head_is)
+    (all_from (λ b. nat_lt b count) r.head (λ b i. all_at (λ d. nat_lt d count) (rule_atoms r) b below (append_left r.head (r.pos ++ r.neg) b i)))) taken
+
+pub pos_low : (N : List ℕ) (r : GroundRule) (head pos : List ℕ) (count kept : ℕ) (middle now : Option ℕ) → head ≡ r.head → pos ≡ r.pos → is_rule_below count r ≡ true → kept ≡ count
+    → IsTaken N true head None middle → IsTaken N false pos middle now → (a : ℕ) → now ≡ Some a → a < kept
+pos_low N r head pos count kept middle now head_is pos_is below same first second =
+    taken_below N false pos count kept middle now same (head_low N r head count kept middle head_is below same first)
+    (subst (λ (xs : List ℕ). are_below count xs ≡ true) (sym pos_is)
+    (all_from (λ b. nat_lt b count) r.pos (λ b i.
+    all_at (λ d. nat_lt d count) (rule_atoms r) b below (append_right r.head (r.pos ++ r.neg) b (append_left r.pos r.neg b i))))) second
 
 witness-inside : (N : List ℕ) (r : GroundRule) (a : ℕ) → IsWitness N r (Some a) → IsIn a (rule_atoms r)
 witness-inside N r a w = elim (w.one a refl) [
@@ -125,6 +154,10 @@ pub rule_chosen : (B N : List ℕ) (r : GroundRule) (before now : List Bool) →
 rule_chosen B N r before now same w satisfied =
     rule_safe B N r before now same
     (or_left r.choice (has_known B (true_places before) N true r.head || is_blocked B (true_places before) N r.pos r.neg) (sym (w.none refl) ∙ satisfied))
+
+-- a rule of a model is satisfied
+pub satisfied-at : (N : List ℕ) (rules : List GroundRule) (r : GroundRule) → is_model N rules ≡ true → IsIn r rules → satisfies N r ≡ true
+satisfied-at N rules r model i = all_at (satisfies N) rules r model i
 
 -- ---- bounds
 

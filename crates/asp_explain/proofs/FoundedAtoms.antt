@@ -1,8 +1,8 @@
 -- Atoms that are founded one after another.
-use Rattle.std.proofs.Common.{◌≡◌, refl, sym, ap, ◌∙◌, subst, ℕ, ◌<◌, inl, inr, ◌⊎◌, Bool, true, false, not, ◌&&◌, ◌||◌, List, [], ◌∷◌, ◌++◌, length, get_or, nat_lt, nat_eq, Option, Some, None, arith}
+use Rattle.std.proofs.Common.{◌≡◌, refl, sym, ap, ◌∙◌, subst, ℕ, ◌<◌, inl, inr, ◌⊎◌, Bool, true, false, not, ◌&&◌, ◌||◌, eqb, List, [], ◌∷◌, ◌++◌, length, get_or, nat_lt, nat_eq, Option, Some, None, arith}
 use Rattle.std.specs.Prelude.{slice_set, IfSome}
 use Rattle.std.specs.List.{list_all, list_any, find, slice_get}
-use Rattle.std.proofs.lemmas.Bool.{cases_eq, ltb-true}
+use Rattle.std.proofs.lemmas.Bool.{ltb-true}
 use Rattle.std.proofs.lemmas.List.{length-set}
 use Rattle.asp_bits.specs.Places.{true_places}
 use Rattle.asp_reduct.specs.Bounds.{is_rule_below}
@@ -14,13 +14,14 @@ use Rattle.asp_defs.specs.Interpretations.{holds}
 use Rattle.asp_defs.specs.Truth.{body_true}
 use Rattle.asp_defs.specs.Unfounded.{supports}
 use Rattle.asp_defs.specs.Games.{rule_atoms}
-use Rattle.asp_defs.proofs.Lists.{both, and_true, true_or_false, not_true, not_false, all_at, all_from, any_at, any_from, append_left}
+use Rattle.asp_defs.proofs.Lists.{both, and_true, either, true_or_false, not_true, not_false, all_at, all_from, any_at, any_from, append_left}
 use Rattle.asp_defs.proofs.Subsets.{true_is_not_false, holds_at, holds_from}
 use Rattle.asp_defs.proofs.FoundedLaws.{supports_from}
 use Rattle.asp_explain.specs.Resting.{are_known}
 use Rattle.asp_explain.specs.Achieving.{MarksAtoms}
 use Rattle.asp_explain.specs.Founding.{AreFounded, IsOnlyHead, Founds, FoundsMore}
-use Rattle.asp_explain.proofs.Marking.{all-grow, single-at, holds-set_other}
+use Rattle.asp_entry.proofs.Marking.{holds-set, same_number}
+use Rattle.asp_explain.proofs.Marking.{all-grow, single-at}
 
 -- ---- rules that found an atom
 
@@ -29,7 +30,7 @@ founds-supports : (N D U : List ℕ) (r : GroundRule) (a : ℕ) → Founds N D r
 founds-supports N D U r a f inside apart =
     let body = both (list_all (holds N) r.pos) (list_all (λ b. not (holds N b)) r.neg) f.body in
     supports_from N U r (record {
-      head = any_from (holds U) r.head a f.head inside;
+      head = any_from (holds U) r.head a f.only.head inside;
       pos = body.0;
       neg = body.1;
       free = all_from (λ b. not (holds U b)) r.pos (λ b i.
@@ -41,7 +42,7 @@ founds-supports N D U r a f inside apart =
           elim (true_or_false (holds N b && not (holds U b))) [
             | inl free ↦
                 let parts = both (holds N b) (not (holds U b)) free in
-                let same : IsIn b (a ∷ []) = holds_at (a ∷ []) b (f.alone b i parts.0) in
+                let same : IsIn b (a ∷ []) = holds_at (a ∷ []) b (f.only.alone b i parts.0) in
                 elim same [
                   | inl e ↦ absurd (true_is_not_false _ (subst (λ (c : ℕ). holds U c ≡ true) (sym e) inside) (not_true _ parts.1))
                   | inr never ↦ absurd never
@@ -101,9 +102,9 @@ more_rule B N r a marks founded marks' founded' low f done is = record {
   as_many = ap length is ∙ length-set founded a true;
   keeps = λ G within before.
       founds-keeps G B N (true_places marks) (true_places founded) (true_places marks') (true_places founded') r a (within r (inl refl)) f done.passes done.grows
-      (λ b h. elim (cases_eq b a) [
-        | inl e ↦ inr e
-        | inr n ↦ inl (sym (holds-set_other founded a b n) ∙ (sym (ap (λ v. holds (true_places v) b) is) ∙ h))
+      (λ b h. elim (either (eqb a b) (holds (true_places founded) b) (sym (holds-set founded a b low) ∙ (sym (ap (λ v. holds (true_places v) b) is) ∙ h))) [
+        | inl e ↦ inr (sym (same_number a b e))
+        | inr old ↦ inl old
       ]) before;
 }
 
@@ -174,10 +175,7 @@ founds-from N D r pos None body pos_is none only = only
 founds-from N D r pos (Some a) body pos_is none only = record {
   body = body;
   pos = λ b i. all_at (holds D) r.pos b (subst (λ (xs : List ℕ). list_all (holds D) xs ≡ true) pos_is (all_pass (holds D) pos none)) i;
-  head = only.head;
-  inside = only.inside;
-  new = only.new;
-  alone = only.alone;
+  only = only;
 }
 
 -- whether a place is true and another than a given one, from what was read there
@@ -193,7 +191,7 @@ pub read_rule : (rules : List GroundRule) (place : ℕ) (r : GroundRule) → pla
 read_rule rules place r h is = subst (λ (q : GroundRule). IsIn q rules) (sym is) (get_or-member rules place r h)
 
 pub founds-below : (N D : List ℕ) (r : GroundRule) (a count : ℕ) → is_rule_below count r ≡ true → Founds N D r a → a < count
-founds-below N D r a count below f = ltb-true a count (all_at (λ b. nat_lt b count) (rule_atoms r) a below (append_left r.head (r.pos ++ r.neg) a f.head))
+founds-below N D r a count below f = ltb-true a count (all_at (λ b. nat_lt b count) (rule_atoms r) a below (append_left r.head (r.pos ++ r.neg) a f.only.head))
 
 pub only-below : (N : List ℕ) (r : GroundRule) (head : List ℕ) (a count k : ℕ) → head ≡ r.head → Some a ≡ find (holds N) head → is_rule_below count r ≡ true → k ≡ count → a < k
 only-below N r head a count k head_is is below same =

@@ -2,5 +2,4 @@ pub mod Cubing
 pub mod Deriving
 pub mod Exchange
 pub mod FoundedAtoms
-pub mod Literals
 pub mod Marking

@@ -1,13 +1,10 @@
 -- What is known of atoms, and what marking them achieves.
-use Rattle.std.proofs.Common.{◌≡◌, refl, sym, ap, ◌∙◌, subst, ℕ, zero, suc, ◌+◌, ◌<◌, ◌≤◌, inl, inr, Bool, true, false, not, ◌&&◌, ◌||◌, eqb, List, [], ◌∷◌, ◌++◌, length, get_or, set, take, replicate, nat_lt, Some, arith}
-use Rattle.std.specs.Prelude.{slice_set}
+use Rattle.std.proofs.Common.{◌≡◌, refl, sym, ap, ◌∙◌, subst, ℕ, ◌+◌, ◌<◌, ◌≤◌, inl, inr, Bool, true, false, not, ◌&&◌, ◌||◌, List, [], ◌∷◌, ◌++◌, length, get_or, take, Some}
 use Rattle.std.specs.Bool.{beq}
 use Rattle.std.specs.List.{list_all, list_any, slice_get}
-use Rattle.std.proofs.lemmas.Bool.{cases_eq, cases_lt, ne_eqb, ltb-true}
-use Rattle.std.proofs.lemmas.List.{length-set, get_or-set_same, get_or-set_other, get_or_past, take_more, take_all, length-replicate}
-use Rattle.asp_bits.specs.Places.{true_from, true_places}
-use Rattle.asp_reduct.proofs.Truths.{holds-true_places, holds-read, get_or-member}
-use Rattle.asp_reduct.specs.Bounds.{are_below}
+use Rattle.std.proofs.lemmas.List.{take_more, take_all}
+use Rattle.asp_bits.specs.Places.{true_places}
+use Rattle.asp_reduct.proofs.Truths.{holds-read}
 use Rattle.asp_defs.specs.declared.ground.GroundRule.{GroundRule}
 use Rattle.asp_defs.specs.declared.ground.Bound.{Bound}
 use Rattle.asp_defs.specs.declared.ground.Counted.{Counted}
@@ -17,19 +14,14 @@ use Rattle.asp_defs.specs.Interpretations.{holds}
 use Rattle.asp_defs.specs.History.{agrees}
 use Rattle.asp_defs.specs.Bounds.{term_atoms, bound_atoms}
 use Rattle.asp_defs.specs.Games.{rule_atoms}
-use Rattle.asp_defs.proofs.Lists.{both, and_true, either, or_left, or_right, not_false, all_at, all_from, any_at, any_from, append_at, append_left, append_right}
-use Rattle.asp_defs.proofs.Subsets.{true_is_not_false, holds_at, holds_from}
-use Rattle.asp_defs.proofs.Fixing.{same_test}
+use Rattle.asp_defs.proofs.Lists.{both, and_true, either, or_left, or_right, true_or_false, not_false, all_at, all_from, any_at, any_from, append_at, append_left, append_right}
+use Rattle.asp_defs.proofs.Subsets.{holds_at, holds_from}
 use Rattle.asp_explain.specs.Resting.{is_known, are_known, has_known, is_blocked, is_safe, is_kept, may_support, is_settled}
-use Rattle.asp_explain.specs.Achieving.{MarksFew, MarksRules, Achieves, IsPlaces, MarksAtoms, MarksLiterals}
+use Rattle.asp_entry.specs.Marks.{Marks}
+use Rattle.asp_entry.proofs.Taking.{beq_agrees}
+use Rattle.asp_explain.specs.Achieving.{MarksFew, MarksRules, Achieves, MarksAtoms, MarksLiterals, SatisfiesRules}
 
 -- ---- what was read
-
-beq_agrees : (v truth : Bool) → beq v truth ≡ agrees truth v
-beq_agrees true true = refl
-beq_agrees true false = refl
-beq_agrees false true = refl
-beq_agrees false false = refl
 
 pub known-read : (outer marks : List Bool) (a : ℕ) (lower marked : Bool) → slice_get outer a ≡ Some lower → slice_get marks a ≡ Some marked
     → (not lower || marked) ≡ is_known (true_places outer) (true_places marks) a
@@ -50,30 +42,6 @@ true_one-read values outer a lower v place hv hp =
     ap (λ t. v && t) (beq_agrees place lower)
     ∙ (ap (λ t. t && agrees lower place) (sym (holds-read values a v hv))
     ∙ ap (λ t. holds (true_places values) a && agrees lower t) (sym (holds-read outer a place hp)))
-
--- ---- one place
-
-same_number : (p a : ℕ) → eqb p a ≡ true → p ≡ a
-same_number p a h = elim (cases_eq p a) [
-  | inl e ↦ e
-  | inr n ↦ absurd (true_is_not_false (eqb p a) h (ne_eqb p a n))
-]
-
--- the true places with one more
-pub holds-set_same : (values : List Bool) (p : ℕ) → p < length values → holds (true_places (set values p true)) p ≡ true
-holds-set_same values p h = holds-true_places (set values p true) p ∙ get_or-set_same values p true false h
-
-pub holds-set_other : (values : List Bool) (p a : ℕ) → (a ≡ p → ⊥) → holds (true_places (set values p true)) a ≡ holds (true_places values) a
-holds-set_other values p a n =
-    holds-true_places (set values p true) a ∙ (get_or-set_other values p a true false n ∙ sym (holds-true_places values a))
-
--- no place is true where nothing is
-blank-from : (first n : ℕ) → true_from first (replicate n false) ≡ []
-blank-from first zero = refl
-blank-from first (suc n) = blank-from (suc first) n
-
-pub blank : (n a : ℕ) → holds (true_places (replicate n false)) a ≡ false
-blank n a = ap (λ I. holds I a) (blank-from 0 n)
 
 -- ---- what achieves
 
@@ -213,29 +181,23 @@ single-at atoms a h =
 pub single-from : (atoms : List ℕ) (a : ℕ) → IsIn a atoms → list_any (λ x. holds (x ∷ []) a) atoms ≡ true
 single-from atoms a i = any_from (λ x. holds (x ∷ []) a) atoms a i (holds_from (a ∷ []) a (inl refl))
 
-pub marked_outer : (outer before now : List Bool) (p : ℕ) (t : Bool) → p < length outer → length before ≡ length outer → slice_get outer p ≡ Some t → t ≡ true → now ≡ slice_set before p true
-    → MarksAtoms (true_places outer) (p ∷ []) before now
-marked_outer outer before now p t h as_many read passes is =
-    let lower : holds (true_places outer) p ≡ true = holds-read outer p t read ∙ passes in
-    let low : p < length before = omega (arith, h, as_many) in
-    let hit : holds (true_places now) p ≡ true = ap (λ v. holds (true_places v) p) is ∙ holds-set_same before p low in
-    record {
-      as_many = ap length is ∙ length-set before p true;
-      grows = λ a old. elim (cases_eq a p) [
-        | inl e ↦ subst (λ (b : ℕ). holds (true_places now) b ≡ true) (sym e) hit
-        | inr n ↦ ap (λ v. holds (true_places v) a) is ∙ (holds-set_other before p a n ∙ old)
-      ];
-      added = λ a new. elim (cases_eq a p) [
-        | inl e ↦ inr (subst (λ (b : ℕ). holds (true_places outer) b ≡ true) (sym e) lower, single-from (p ∷ []) a (inl e))
-        | inr n ↦ inl (sym (holds-set_other before p a n) ∙ (sym (ap (λ v. holds (true_places v) a) is) ∙ new))
-      ];
-      passes = and_true (is_known (true_places outer) (true_places now) p) true (or_right (not (holds (true_places outer) p)) (holds (true_places now) p) hit) refl;
-    }
-
-pub left_own : (outer before now : List Bool) (p : ℕ) (t : Bool) → slice_get outer p ≡ Some t → t ≡ false → now ≡ before → MarksAtoms (true_places outer) (p ∷ []) before now
-left_own outer before now p t read fails same =
-    nothing_new (is_known (true_places outer)) (λ a. a ∷ []) (true_places outer) p before now same
-    (or_left (not (holds (true_places outer) p)) (holds (true_places before) p) (not_false _ (holds-read outer p t read ∙ fails)))
+pub marks-atoms : (B : List ℕ) {atoms : List ℕ} {before now : List Bool} → Marks (holds B) atoms before now → MarksAtoms B atoms before now
+marks-atoms B {atoms} {before} {now} m = record {
+  as_many = m.as_many;
+  grows = λ a h. m.each a ∙ or_left (holds (true_places before) a) (holds B a && holds atoms a) h;
+  added = λ a h. elim (either (holds (true_places before) a) (holds B a && holds atoms a) (sym (m.each a) ∙ h)) [
+    | inl old ↦ inl old
+    | inr new ↦ let parts = both (holds B a) (holds atoms a) new in inr (parts.0, single-from atoms a (holds_at atoms a parts.1))
+  ];
+  passes = all_from (is_known B (true_places now)) atoms (λ a i.
+      elim (true_or_false (holds B a)) [
+        | inl lower ↦
+            or_right (not (holds B a)) (holds (true_places now) a)
+            (m.each a
+            ∙ or_right (holds (true_places before) a) (holds B a && holds atoms a) (and_true (holds B a) (holds atoms a) lower (holds_from atoms a i)))
+        | inr own ↦ or_left (not (holds B a)) (holds (true_places now) a) (not_false _ own)
+      ]);
+}
 
 -- marks of a list of atoms are those of an item with them
 pub of_item : {D : Type 0} (other : List ℕ → D → Bool) (places : D → List ℕ) (B : List ℕ) (atoms : List ℕ) (y : D) (before now : List Bool)
@@ -245,48 +207,7 @@ of_item other places B atoms y before now inside passes done =
     (λ a h. or_left (holds (places y) a) false (holds_from (places y) a (inside a (single-at atoms a h))))
     (and_true (other (true_places now) y) true passes refl) done
 
--- ---- the places of a base
-
-pub places_more : (atoms : List ℕ) (i d count : ℕ) (middle now : List Bool) → i < length atoms → are_below count atoms ≡ true
-    → IsPlaces (take i atoms) count middle → now ≡ slice_set middle (get_or atoms i d) true → IsPlaces (take (i + 1) atoms) count now
-places_more atoms i d count middle now h below so_far is =
-    let p = get_or atoms i d in
-    let low : p < count = ltb-true p count (all_at (λ a. nat_lt a count) atoms p below (get_or-member atoms i d h)) in
-    record {
-      as_many = ap length is ∙ (length-set middle p true ∙ so_far.as_many);
-      each = λ a.
-          ap (λ v. holds (true_places v) a) is
-          ∙ (elim (cases_eq a p) [
-            | inl e ↦
-                subst (λ (b : ℕ). holds (true_places (set middle p true)) b ≡ true) (sym e) (holds-set_same middle p (omega (arith, low, so_far.as_many)))
-                ∙ sym (holds_from (take (i + 1) atoms) a (subst (λ (xs : List ℕ). IsIn a xs) (sym (take_more atoms i d h)) (append_right (take i atoms) (p ∷ []) a (inl e))))
-            | inr n ↦
-                holds-set_other middle p a n
-                ∙ (so_far.each a
-                ∙ same_test (holds (take i atoms) a) (holds (take (i + 1) atoms) a)
-                (λ t. holds_from (take (i + 1) atoms) a (subst (λ (xs : List ℕ). IsIn a xs) (sym (take_more atoms i d h)) (append_left (take i atoms) (p ∷ []) a (holds_at (take i atoms) a t))))
-                (λ t. elim (append_at (take i atoms) (p ∷ []) a (subst (λ (xs : List ℕ). IsIn a xs) (take_more atoms i d h) (holds_at (take (i + 1) atoms) a t))) [
-                  | inl early ↦ holds_from (take i atoms) a early
-                  | inr last ↦ elim last [ inl e ↦ absurd (n e) | inr never ↦ absurd never ]
-                ]))
-          ]);
-    }
-
-pub places_none : (count : ℕ) (now : List Bool) → now ≡ replicate count false → IsPlaces [] count now
-places_none count now is = record {
-  as_many = ap length is ∙ length-replicate count false;
-  each = λ a. ap (λ v. holds (true_places v) a) is ∙ blank count a;
-}
-
-pub places_all : (atoms : List ℕ) (i count : ℕ) (now : List Bool) → length atoms ≤ i → IsPlaces (take i atoms) count now → IsPlaces atoms count now
-places_all atoms i count now h so_far = subst (λ (xs : List ℕ). IsPlaces xs count now) (take_all i atoms h) so_far
-
--- a place that is true is one that there is
-pub true-within : (values : List Bool) (a : ℕ) → holds (true_places values) a ≡ true → a < length values
-true-within values a h = elim (cases_lt a (length values)) [
-  | inl low ↦ low
-  | inr high ↦ absurd (true_is_not_false (holds (true_places values) a) h (holds-true_places values a ∙ get_or_past values a false high))
-]
+-- ---- literals
 
 -- the marks of a literal's atom are those of the literal
 pub literal-marked : (B : List ℕ) (l : Lit) (before now : List Bool) → MarksAtoms B (l.atom ∷ []) before now → MarksLiterals B (l ∷ []) before now
@@ -311,3 +232,54 @@ few_rule B r head pos neg before first second now head_is pos_is neg_is at_head 
     (subst (λ (xs : List ℕ). MarksFew B xs second now) neg_is at_neg)) in
     recast (λ C a. true) (λ a. a ∷ []) (λ C q. true) rule_atoms B (rule_atoms r) (r ∷ []) before now
     (λ a h. or_left (holds (rule_atoms r) a) false (holds_from (rule_atoms r) a (single-at (rule_atoms r) a h))) refl done
+
+-- ---- atoms of some of the rules
+
+pub few_none : (B : List ℕ) (rules : List GroundRule) (marks : List Bool) → MarksRules B rules marks marks
+few_none B rules marks = record {
+  as_many = refl;
+  grows = λ a h. h;
+  added = λ a h. inl h;
+  passes = all_from (λ r. true) rules (λ r i. refl);
+}
+
+pub few_then : (B : List ℕ) (rules : List GroundRule) (before middle now : List Bool) → MarksRules B rules before middle → MarksRules B rules middle now → MarksRules B rules before now
+few_then B rules before middle now first second = record {
+  as_many = second.as_many ∙ first.as_many;
+  grows = λ a h. second.grows a (first.grows a h);
+  added = λ a h. elim (second.added a h) [ inl early ↦ first.added a early | inr new ↦ inr new ];
+  passes = second.passes;
+}
+
+-- what satisfies one of the rules is of the rules
+pub few_of : (B N : List ℕ) (rules : List GroundRule) (r : GroundRule) (before now : List Bool) → IsIn r rules → SatisfiesRules B N (r ∷ []) before now → MarksRules B rules before now
+few_of B N rules r before now member done = record {
+  as_many = done.as_many;
+  grows = done.grows;
+  added = λ a h. elim (done.added a h) [
+    | inl old ↦ inl old
+    | inr new ↦
+        let found = any_at (λ q. holds (rule_atoms q) a) (r ∷ []) new.1 in
+        inr (
+          new.0,
+          elim found.1 [
+            | inl e ↦ any_from (λ q. holds (rule_atoms q) a) rules found.0 (subst (λ (q : GroundRule). IsIn q rules) (sym e) member) found.2
+            | inr never ↦ absurd never
+          ],
+        )
+  ];
+  passes = all_from (λ q. true) rules (λ q i. refl);
+}
+
+-- all rules are satisfied in the end, whatever was marked before
+pub satisfied_after : (B N : List ℕ) (rules : List GroundRule) (before first second now : List Bool) → MarksRules B rules before first → MarksRules B rules first second
+    → SatisfiesRules B N rules second now → SatisfiesRules B N rules before now
+satisfied_after B N rules before first second now some more done = record {
+  as_many = done.as_many ∙ (more.as_many ∙ some.as_many);
+  grows = λ a h. done.grows a (more.grows a (some.grows a h));
+  added = λ a h. elim (done.added a h) [
+    | inl late ↦ elim (more.added a late) [ inl early ↦ some.added a early | inr new ↦ inr new ]
+    | inr new ↦ inr new
+  ];
+  passes = done.passes;
+}

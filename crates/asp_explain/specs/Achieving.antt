@@ -47,11 +47,6 @@ MarksRules B = Achieves (λ C r. true) rule_atoms B
 abbrev pub KeepsBounds : List ℕ → List ℕ → List Bound → List Bool → List Bool → Type 0
 KeepsBounds B N = Achieves (λ C b. is_kept B C N b) bound_atoms B
 
--- values are true at the places of these atoms alone
-pub record IsPlaces (atoms : List ℕ) (count : ℕ) (values : List Bool) : Type 0 where
-  pub as_many : length values ≡ count
-  pub each : (a : ℕ) → holds (true_places values) a ≡ holds atoms a
-
 -- the atom of a literal of a body that is false, where there is one
 pub record IsFalseAtom (N pos neg : List ℕ) (found : Option ℕ) : Type 0 where
   pub one : (a : ℕ) → found ≡ Some a → (IsIn a pos × (holds N a ≡ false)) ⊎ (IsIn a neg × (holds N a ≡ true))

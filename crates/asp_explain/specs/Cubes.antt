@@ -25,10 +25,6 @@ pub record IsMoveCube (g : Game) (i : ℕ) (M : List ℕ) (won lits : List Lit) 
   pub held : cube_holds lits M ≡ true
   pub sound : (K : List ℕ) → is_subset K (base g (i - 1)) ≡ true → cube_holds lits K ≡ true → HeldMove g i won K
 
--- the literal of an atom as it is in an interpretation
-abbrev pub literal_in : List ℕ → ℕ → Lit
-literal_in I a = record { atom = a; positive = holds I a }
-
 -- marked atoms, as many places as a count, which are outer ones and stand in the level or in `won`, and on which a move rests
 pub record AreResting (g : Game) (i : ℕ) (won : List Lit) (N : List ℕ) (count : ℕ) (marks : List Bool) : Type 0 where
   pub as_many : length marks ≡ count

@@ -27,10 +27,7 @@ pub record IsOnlyHead (N D : List ℕ) (r : GroundRule) (atom : ℕ) : Type 0 wh
 pub record Founds (N D : List ℕ) (r : GroundRule) (atom : ℕ) : Type 0 where
   pub body : body_true N r ≡ true
   pub pos : (b : ℕ) → IsIn b r.pos → holds D b ≡ true
-  pub head : IsIn atom r.head
-  pub inside : holds N atom ≡ true
-  pub new : holds D atom ≡ false
-  pub alone : (b : ℕ) → IsIn b r.head → holds N b ≡ true → holds (atom ∷ []) b ≡ true
+  pub only : IsOnlyHead N D r atom
 
 -- further atoms were marked, if any; each is in B and stands in the rules
 pub record MarksSome (B : List ℕ) (rules : List GroundRule) (before now : List Bool) : Type 0 where

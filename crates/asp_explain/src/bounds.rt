@@ -7,10 +7,10 @@ ghost use Rattle.asp_reduct.specs.Bounds.{is_term_below, is_bound_below};
 ghost use Rattle.asp_explain.specs.Achieving.{MarksAtoms, MarksTerms, KeepsBounds};
 
 use crate::known::is_blocked;
-use crate::marks::{mark, mark_all};
 use crate::rules::false_atom;
 use asp_bits::Bits;
 use asp_defs::{Bound, Counted};
+use asp_entry::{mark, mark_all};
 
 /// Marks the outer atoms of a counted atom and its condition.
 fn mark_term(marks: &mut Bits, term: &Counted, outer: &Bits)
@@ -50,7 +50,8 @@ fn keep_bound(marks: &mut Bits, bound: &Bound, set: &Bits, outer: &Bits)
     requires below { IsTrue (is_bound_below (length outer.now) bound.now) }
     requires set { length set.now ≡ length outer.now }
     requires marks { length marks.old ≡ length outer.now }
-    ensures { KeepsBounds (true_places outer.now) (true_places set.now) (bound.now ∷ []) marks.old marks.new }
+    ensures { KeepsBounds
+        (true_places outer.now) (true_places set.now) (bound.now ∷ []) marks.old marks.new }
 {
     if is_blocked(
         bound.pos.as_slice(),
@@ -68,11 +69,12 @@ fn keep_bound(marks: &mut Bits, bound: &Bound, set: &Bits, outer: &Bits)
 }
 
 /// Marks outer atoms until all bounds are known to be met, where all are met.
-pub fn keep(marks: &mut Bits, bounds: &[Bound], set: &Bits, outer: &Bits)
+pub fn keep_bounds(marks: &mut Bits, bounds: &[Bound], set: &Bits, outer: &Bits)
     requires below { IsTrue (list_all (is_bound_below (length outer.now)) bounds.now) }
     requires set { length set.now ≡ length outer.now }
     requires marks { length marks.old ≡ length outer.now }
-    ensures { KeepsBounds (true_places outer.now) (true_places set.now) bounds.now marks.old marks.new }
+    ensures { KeepsBounds
+        (true_places outer.now) (true_places set.now) bounds.now marks.old marks.new }
 {
     for bound in bounds {
         keep_bound(marks, bound, set, outer);

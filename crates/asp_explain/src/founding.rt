@@ -25,7 +25,8 @@ fn is_other(other: u32, set: &Bits, atom: u32) -> bool
 /// Whether none of the atoms but this one is true.
 fn no_other(atoms: &[u32], set: &Bits, atom: u32) -> bool
     requires { IsTrue (are_below (length set.now) atoms.now) }
-    ensures { result ≡ list_all (λ a. not (holds (true_places set.now) a && not (holds (atom ∷ []) a))) atoms.now }
+    ensures { result ≡ list_all
+        (λ a. not (holds (true_places set.now) a && not (holds (atom ∷ []) a))) atoms.now }
 {
     for other in atoms {
         if is_other(*other, set, atom) {
@@ -76,7 +77,8 @@ fn found_rule(
     requires set { length set.now ≡ length outer.now }
     requires marks { length marks.old ≡ length outer.now }
     requires founded { length founded.old ≡ length outer.now }
-    ensures { FoundsMore (true_places outer.now) (true_places set.now) (rule.now ∷ []) marks.old founded.old marks.new founded.new }
+    ensures { FoundsMore (true_places outer.now) (true_places set.now) (rule.now ∷ [])
+        marks.old founded.old marks.new founded.new }
 {
     let atom = founded_atom(rule, set, founded)?;
     mark_rule(marks, rule, outer);
@@ -99,7 +101,8 @@ fn take_turn(
     requires set { length set.now ≡ length outer.now }
     requires marks { length marks.old ≡ length outer.now }
     requires founded { length founded.old ≡ length outer.now }
-    ensures { FoundsMore (true_places outer.now) (true_places set.now) rules.now marks.old founded.old marks.new founded.new }
+    ensures { FoundsMore (true_places outer.now) (true_places set.now) rules.now
+        marks.old founded.old marks.new founded.new }
 {
     if place >= rules.len() {
         return Ok(());
@@ -114,7 +117,7 @@ fn take_turn(
 /// is next that had the fewest unmarked outer atoms when it became ready.
 ///
 /// `NoMemory`: memory was refused; further atoms may be marked.
-pub fn found(
+pub fn found_atoms(
     alloc: Global,
     marks: &mut Bits,
     founded: &mut Bits,
@@ -126,7 +129,9 @@ pub fn found(
     requires set { length set.now ≡ length outer.now }
     requires marks { length marks.old ≡ length outer.now }
     requires founded { length founded.old ≡ length outer.now }
-    ensures { OnOk result (FoundsMore (true_places outer.now) (true_places set.now) rules.now marks.old founded.old marks.new founded.new) }
+    ensures { OnOk result
+        (FoundsMore (true_places outer.now) (true_places set.now) rules.now
+        marks.old founded.old marks.new founded.new) }
 {
     let mut waiting = Waiting::new(alloc, outer.len())?;
     waiting.add_rules(rules, set, outer, marks)?;

@@ -4,7 +4,8 @@ ghost use Rattle.asp_bits.specs.Places.{true_places};
 ghost use Rattle.asp_defs.specs.Interpretations.{holds};
 ghost use Rattle.asp_defs.specs.History.{agrees};
 ghost use Rattle.asp_reduct.specs.Bounds.{are_below, is_rule_below};
-ghost use Rattle.asp_explain.specs.Resting.{is_known as is_known_in, has_known as has_known_in, is_blocked as is_blocked_in, is_safe as is_safe_in};
+ghost use Rattle.asp_explain.specs.Resting.{is_known as is_known_in, has_known as has_known_in};
+ghost use Rattle.asp_explain.specs.Resting.{is_blocked as is_blocked_in, is_safe as is_safe_in};
 
 use asp_bits::Bits;
 use asp_defs::GroundRule;
@@ -25,7 +26,8 @@ fn is_known_as(atom: u32, truth: bool, set: &Bits, outer: &Bits, marks: &Bits) -
     requires below { atom < length outer.now }
     requires set { length set.now ≡ length outer.now }
     requires marks { length marks.now ≡ length outer.now }
-    ensures { result ≡ (agrees truth (holds (true_places set.now) atom) && is_known_in (true_places outer.now) (true_places marks.now) atom) }
+    ensures { result ≡ (agrees truth (holds (true_places set.now) atom)
+        && is_known_in (true_places outer.now) (true_places marks.now) atom) }
 {
     let value = set.get(atom);
     let known = is_known(atom, outer, marks);
@@ -37,7 +39,8 @@ fn has_known(atoms: &[u32], truth: bool, set: &Bits, outer: &Bits, marks: &Bits)
     requires below { IsTrue (are_below (length outer.now) atoms.now) }
     requires set { length set.now ≡ length outer.now }
     requires marks { length marks.now ≡ length outer.now }
-    ensures { result ≡ has_known_in (true_places outer.now) (true_places marks.now) (true_places set.now) truth atoms.now }
+    ensures { result ≡ has_known_in
+        (true_places outer.now) (true_places marks.now) (true_places set.now) truth atoms.now }
 {
     for atom in atoms {
         if is_known_as(*atom, truth, set, outer, marks) {
@@ -53,7 +56,8 @@ pub fn is_blocked(pos: &[u32], neg: &[u32], set: &Bits, outer: &Bits, marks: &Bi
     requires neg { IsTrue (are_below (length outer.now) neg.now) }
     requires set { length set.now ≡ length outer.now }
     requires marks { length marks.now ≡ length outer.now }
-    ensures { result ≡ is_blocked_in (true_places outer.now) (true_places marks.now) (true_places set.now) pos.now neg.now }
+    ensures { result ≡ is_blocked_in
+        (true_places outer.now) (true_places marks.now) (true_places set.now) pos.now neg.now }
 {
     has_known(pos, false, set, outer, marks) || has_known(neg, true, set, outer, marks)
 }
@@ -63,7 +67,8 @@ pub fn is_safe(rule: &GroundRule, set: &Bits, outer: &Bits, marks: &Bits) -> boo
     requires below { IsTrue (is_rule_below (length outer.now) rule.now) }
     requires set { length set.now ≡ length outer.now }
     requires marks { length marks.now ≡ length outer.now }
-    ensures { result ≡ is_safe_in (true_places outer.now) (true_places marks.now) (true_places set.now) rule.now }
+    ensures { result ≡ is_safe_in
+        (true_places outer.now) (true_places marks.now) (true_places set.now) rule.now }
 {
     rule.choice
         || has_known(rule.head.as_slice(), true, set, outer, marks)

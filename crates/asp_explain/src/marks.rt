@@ -1,47 +1,12 @@
-//! The marks of outer atoms.
-ghost use Rattle.std.specs.Prelude.{◌≡◌, ◌<◌, ◌∷◌, [], IsTrue, IfOk, length};
+//! The marks of literals' atoms.
+ghost use Rattle.std.specs.Prelude.{◌≡◌, IsTrue, length};
 ghost use Rattle.asp_bits.specs.Places.{true_places};
 ghost use Rattle.asp_entry.specs.Cubes.{are_lits_below};
-ghost use Rattle.asp_reduct.specs.Bounds.{are_below};
-ghost use Rattle.asp_explain.specs.Achieving.{IsPlaces, MarksAtoms, MarksLiterals};
+ghost use Rattle.asp_explain.specs.Achieving.{MarksLiterals};
 
 use asp_bits::Bits;
-use asp_defs::{Lit, NoMemory};
-use std::alloc::Global;
-
-/// The places of these atoms, of so many. `NoMemory`: memory was refused.
-pub fn places(alloc: Global, atoms: &[u32], count: u32) -> Result<Bits, NoMemory>
-    requires { IsTrue (are_below count atoms.now) }
-    ensures { IfOk result (IsPlaces atoms.now count) }
-{
-    let mut places = Bits::new(alloc, count)?;
-    for atom in atoms {
-        places.set(*atom, true);
-    }
-    Ok(places)
-}
-
-/// Marks the atom where it is an outer one.
-pub fn mark(marks: &mut Bits, atom: u32, outer: &Bits)
-    requires below { atom < length outer.now }
-    requires marks { length marks.old ≡ length outer.now }
-    ensures { MarksAtoms (true_places outer.now) (atom ∷ []) marks.old marks.new }
-{
-    if outer.get(atom) {
-        marks.set(atom, true);
-    }
-}
-
-/// Marks those of the atoms that are outer ones.
-pub fn mark_all(marks: &mut Bits, atoms: &[u32], outer: &Bits)
-    requires below { IsTrue (are_below (length outer.now) atoms.now) }
-    requires marks { length marks.old ≡ length outer.now }
-    ensures { MarksAtoms (true_places outer.now) atoms.now marks.old marks.new }
-{
-    for atom in atoms {
-        mark(marks, *atom, outer);
-    }
-}
+use asp_defs::Lit;
+use asp_entry::mark;
 
 /// Marks those of the literals' atoms that are outer ones.
 pub fn mark_literals(marks: &mut Bits, lits: &[Lit], outer: &Bits)

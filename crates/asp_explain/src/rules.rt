@@ -5,13 +5,14 @@ ghost use Rattle.asp_bits.specs.Places.{true_places};
 ghost use Rattle.asp_defs.specs.Games.{rule_atoms};
 ghost use Rattle.asp_defs.specs.Truth.{satisfies, is_model};
 ghost use Rattle.asp_reduct.specs.Bounds.{are_below, is_rule_below};
-ghost use Rattle.asp_explain.specs.Achieving.{MarksAtoms, SettlesRules, SatisfiesRules, IsFalseAtom, IsWitness};
+ghost use Rattle.asp_explain.specs.Achieving.{MarksAtoms, SettlesRules, SatisfiesRules};
+ghost use Rattle.asp_explain.specs.Achieving.{IsFalseAtom, IsWitness};
 
 use crate::known::is_safe;
-use crate::marks::{mark, mark_all};
 use crate::support::may_support;
 use asp_bits::Bits;
 use asp_defs::GroundRule;
+use asp_entry::{Preferences, first_of_truth, mark, mark_all};
 use asp_reduct::{first_false, first_true};
 
 /// Marks the rule's outer atoms.
@@ -31,7 +32,8 @@ fn settle_rule(marks: &mut Bits, rule: &GroundRule, set: &Bits, outer: &Bits, fo
     requires set { length set.now ≡ length outer.now }
     requires marks { length marks.old ≡ length outer.now }
     requires founded { length founded.now ≡ length outer.now }
-    ensures { SettlesRules (true_places outer.now) (true_places founded.now) (true_places set.now) (rule.now ∷ []) marks.old marks.new }
+    ensures { SettlesRules (true_places outer.now) (true_places founded.now)
+        (true_places set.now) (rule.now ∷ []) marks.old marks.new }
 {
     if may_support(rule, set, founded) {
         mark_rule(marks, rule, outer);
@@ -44,7 +46,8 @@ pub fn settle(marks: &mut Bits, rules: &[GroundRule], set: &Bits, outer: &Bits, 
     requires set { length set.now ≡ length outer.now }
     requires marks { length marks.old ≡ length outer.now }
     requires founded { length founded.now ≡ length outer.now }
-    ensures { SettlesRules (true_places outer.now) (true_places founded.now) (true_places set.now) rules.now marks.old marks.new }
+    ensures { SettlesRules (true_places outer.now) (true_places founded.now)
+        (true_places set.now) rules.now marks.old marks.new }
 {
     for rule in rules {
         settle_rule(marks, rule, set, outer, founded);
@@ -63,42 +66,62 @@ pub fn false_atom(pos: &[u32], neg: &[u32], set: &Bits) -> Option<u32>
     }
 }
 
-/// An atom that satisfies the rule: a true one of the head, or that of a false literal of the body.
-fn witness(rule: &GroundRule, set: &Bits) -> Option<u32>
-    requires { IsTrue (is_rule_below (length set.now) rule.now) }
+/// The atom that is taken first of those that satisfy the rule: the true ones of the head, and those of the body's false
+/// literals.
+pub fn witness(rule: &GroundRule, set: &Bits, preferences: &Preferences<'_>) -> Option<u32>
+    requires below { IsTrue (is_rule_below (length set.now) rule.now) }
+    requires kept { length preferences.now.kept.now ≡ length set.now }
+    requires standings { length preferences.now.standings.now ≡ length set.now }
     ensures { IsWitness (true_places set.now) rule.now result }
 {
-    match first_true(rule.head.as_slice(), set) {
-        Some(atom) => Some(atom),
-        None => false_atom(rule.pos.as_slice(), rule.neg.as_slice(), set),
-    }
+    let of_head = first_of_truth(None, rule.head.as_slice(), true, set, preferences);
+    let of_pos = first_of_truth(of_head, rule.pos.as_slice(), false, set, preferences);
+    first_of_truth(of_pos, rule.neg.as_slice(), true, set, preferences)
 }
 
 /// Marks an outer atom that satisfies the rule, where it isn't known to be satisfied.
-fn satisfy_rule(marks: &mut Bits, rule: &GroundRule, set: &Bits, outer: &Bits)
+pub fn satisfy_rule(
+    marks: &mut Bits,
+    rule: &GroundRule,
+    set: &Bits,
+    outer: &Bits,
+    preferences: &Preferences<'_>,
+)
     requires below { IsTrue (is_rule_below (length outer.now) rule.now) }
     requires set { length set.now ≡ length outer.now }
     requires marks { length marks.old ≡ length outer.now }
+    requires kept { length preferences.now.kept.now ≡ length outer.now }
+    requires standings { length preferences.now.standings.now ≡ length outer.now }
     requires satisfied { satisfies (true_places set.now) rule.now ≡ true }
-    ensures { SatisfiesRules (true_places outer.now) (true_places set.now) (rule.now ∷ []) marks.old marks.new }
+    ensures { SatisfiesRules
+        (true_places outer.now) (true_places set.now) (rule.now ∷ []) marks.old marks.new }
 {
     if is_safe(rule, set, outer, marks) {
         return;
     }
-    if let Some(atom) = witness(rule, set) {
+    if let Some(atom) = witness(rule, set, preferences) {
         mark(marks, atom, outer);
     }
 }
 
 /// Marks outer atoms until all rules are known to be satisfied.
-pub fn satisfy(marks: &mut Bits, rules: &[GroundRule], set: &Bits, outer: &Bits)
+pub fn satisfy(
+    marks: &mut Bits,
+    rules: &[GroundRule],
+    set: &Bits,
+    outer: &Bits,
+    preferences: &Preferences<'_>,
+)
     requires below { IsTrue (list_all (is_rule_below (length outer.now)) rules.now) }
     requires set { length set.now ≡ length outer.now }
     requires marks { length marks.old ≡ length outer.now }
+    requires kept { length preferences.now.kept.now ≡ length outer.now }
+    requires standings { length preferences.now.standings.now ≡ length outer.now }
     requires satisfied { is_model (true_places set.now) rules.now ≡ true }
-    ensures { SatisfiesRules (true_places outer.now) (true_places set.now) rules.now marks.old marks.new }
+    ensures { SatisfiesRules
+        (true_places outer.now) (true_places set.now) rules.now marks.old marks.new }
 {
     for rule in rules {
-        satisfy_rule(marks, rule, set, outer);
+        satisfy_rule(marks, rule, set, outer, preferences);
     }
 }

@@ -15,7 +15,8 @@ use asp_reduct::body_true;
 fn is_true_one(atom: u32, wanted: bool, set: &Bits, founded: &Bits) -> bool
     requires below { atom < length founded.now }
     requires set { length set.now ≡ length founded.now }
-    ensures { result ≡ (holds (true_places set.now) atom && agrees wanted (holds (true_places founded.now) atom)) }
+    ensures { result ≡ (holds (true_places set.now) atom
+        && agrees wanted (holds (true_places founded.now) atom)) }
 {
     let value = set.get(atom);
     let place = founded.get(atom);
@@ -26,7 +27,9 @@ fn is_true_one(atom: u32, wanted: bool, set: &Bits, founded: &Bits) -> bool
 fn has_true_one(atoms: &[u32], wanted: bool, set: &Bits, founded: &Bits) -> bool
     requires below { IsTrue (are_below (length founded.now) atoms.now) }
     requires set { length set.now ≡ length founded.now }
-    ensures { result ≡ list_any (λ a. holds (true_places set.now) a && agrees wanted (holds (true_places founded.now) a)) atoms.now }
+    ensures { result ≡ list_any
+        (λ a. holds (true_places set.now) a && agrees wanted (holds (true_places founded.now) a))
+        atoms.now }
 {
     for atom in atoms {
         if is_true_one(*atom, wanted, set, founded) {

@@ -144,7 +144,7 @@ impl Waiting {
     }
 
     /// Notes that a rule misses an atom less. `NoMemory`: memory was refused.
-    fn settle(
+    fn note_founded(
         &mut self,
         place: usize,
         rules: &[GroundRule],
@@ -188,7 +188,7 @@ impl Waiting {
                 return Ok(());
             };
             let Link { rule, next } = *link;
-            self.settle(rule, rules, outer, marks)?;
+            self.note_founded(rule, rules, outer, marks)?;
             at = next;
         }
         Ok(())

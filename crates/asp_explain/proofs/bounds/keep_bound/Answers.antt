@@ -1,6 +1,7 @@
 use Rattle.std.proofs.Common.{length, refl, sym, ◌∙◌}
 use Rattle.asp_bits.specs.Places.{true_places}
 use Rattle.asp_explain.proofs.Deriving.{bound_blocked, bound_failed, bound_known, false-below}
+use Rattle.asp_explain.proofs.Marking.{marks-atoms}
 use Rattle.asp_explain.proofs.bounds.keep_bound.Goals as goal
 
 pub returns-then-is_blocked : goal.returns-then-is_blocked
@@ -16,7 +17,7 @@ mark-requires-clause-below c =
 pub returns-in-Some : goal.returns-in-Some
 returns-in-Some c =
     bound_failed (true_places c.args.outer.now) (true_places c.args.set.now) c.args.bound.now c.as_slice-3.result.now c.as_slice-4.result.now c.in-Some.atom
-    c.args.marks.now c.mark.new.marks c.as_slice-3.ensures c.as_slice-4.ensures c.in-Some.ensures c.mark.ensures
+    c.args.marks.now c.mark.new.marks c.as_slice-3.ensures c.as_slice-4.ensures c.in-Some.ensures (marks-atoms (true_places c.args.outer.now) c.mark.ensures)
 
 pub returns-in-None : goal.returns-in-None
 returns-in-None c =

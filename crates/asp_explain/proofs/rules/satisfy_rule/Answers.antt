@@ -1,6 +1,7 @@
 use Rattle.std.proofs.Common.{length, refl, sym, ◌∙◌}
 use Rattle.asp_bits.specs.Places.{true_places}
 use Rattle.asp_explain.proofs.Deriving.{rule_safe, rule_satisfied, rule_chosen, witness-below}
+use Rattle.asp_explain.proofs.Marking.{marks-atoms}
 use Rattle.asp_explain.proofs.rules.satisfy_rule.Goals as goal
 
 pub returns-then-is_safe : goal.returns-then-is_safe
@@ -13,7 +14,7 @@ mark-requires-clause-below c =
 
 pub returns-in-Some : goal.returns-in-Some
 returns-in-Some c =
-    rule_satisfied (true_places c.args.outer.now) (true_places c.args.set.now) c.args.rule.now c.in-Some.atom c.args.marks.now c.mark.new.marks c.in-Some.ensures c.mark.ensures
+    rule_satisfied (true_places c.args.outer.now) (true_places c.args.set.now) c.args.rule.now c.in-Some.atom c.args.marks.now c.mark.new.marks c.in-Some.ensures (marks-atoms (true_places c.args.outer.now) c.mark.ensures)
 
 pub returns-in_default : goal.returns-in_default
 returns-in_default c =

@@ -1,7 +1,7 @@
 use Rattle.std.proofs.Common.{◌∙◌}
 use Rattle.asp_bits.specs.Places.{true_places}
 use Rattle.asp_explain.proofs.FoundedAtoms.{more_none, more_then}
-use Rattle.asp_explain.proofs.founding.found.Goals as goal
+use Rattle.asp_explain.proofs.founding.found_atoms.Goals as goal
 
 pub loop-init : goal.loop-init
 loop-init c = more_none (true_places c.args.outer.now) (true_places c.args.set.now) c.args.rules.now c.args.marks.now c.args.founded.now

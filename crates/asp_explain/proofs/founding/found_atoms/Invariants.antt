@@ -1,6 +1,6 @@
 use Rattle.asp_bits.specs.Places.{true_places}
 use Rattle.asp_explain.specs.Founding.{FoundsMore}
-use Rattle.asp_explain.proofs.founding.found.Given as goal
+use Rattle.asp_explain.proofs.founding.found_atoms.Given as goal
 
 -- what was founded so far
 abbrev pub invariant-loop : goal.invariant-loop

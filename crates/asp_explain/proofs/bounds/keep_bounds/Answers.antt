@@ -2,7 +2,7 @@ use Rattle.asp_bits.specs.Places.{true_places}
 use Rattle.asp_defs.specs.Bounds.{bound_atoms}
 use Rattle.asp_explain.specs.Resting.{is_kept}
 use Rattle.asp_explain.proofs.Marking.{kept-grows, achieves_more}
-use Rattle.asp_explain.proofs.bounds.keep.Goals as goal
+use Rattle.asp_explain.proofs.bounds.keep_bounds.Goals as goal
 
 pub loop-bound-preserved : goal.loop-bound-preserved
 loop-bound-preserved c =

@@ -1,8 +1,0 @@
-use Rattle.std.proofs.Common.{◌≡◌, take}
-use Rattle.asp_bits.specs.Places.{true_places}
-use Rattle.asp_explain.proofs.Literals.{literals}
-use Rattle.asp_explain.proofs.cube.literals.Given as goal
-
--- the literals of the places so far
-abbrev pub invariant-loop-atom : goal.invariant-loop-atom
-invariant-loop-atom l = l.lits.items ≡ literals (true_places l.set) (take l.atom l.atoms)

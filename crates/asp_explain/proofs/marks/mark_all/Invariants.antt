@@ -1,8 +1,0 @@
-use Rattle.std.proofs.Common.{take}
-use Rattle.asp_bits.specs.Places.{true_places}
-use Rattle.asp_explain.specs.Achieving.{MarksAtoms}
-use Rattle.asp_explain.proofs.marks.mark_all.Given as goal
-
--- those of the atoms so far that are outer ones are marked
-abbrev pub invariant-loop-atom : goal.invariant-loop-atom
-invariant-loop-atom l = MarksAtoms (true_places l.outer) (take l.atom-index l.atoms) l.fn.marks l.marks
