@@ -1,7 +1,6 @@
 -- Sets of atoms of a base.
-use Rattle.std.proofs.Common.{◌≡◌, refl, sym, ap, ◌∙◌, subst, ℕ, ◌<◌, inl, inr, Bool, true, false, ◌||◌, eqb, List, length, get_or, replicate}
+use Rattle.std.proofs.Common.{◌≡◌, sym, ap, ◌∙◌, subst, ℕ, ◌<◌, inl, inr, Bool, true, false, eqb, List, length, get_or, replicate}
 use Rattle.std.specs.Prelude.{slice_set}
-use Rattle.std.specs.List.{list_all}
 use Rattle.asp_bits.specs.Places.{true_places}
 use Rattle.asp_reduct.proofs.Truths.{get_or-member, ascends-true_from}
 use Rattle.asp_defs.specs.Interpretations.{holds}
@@ -9,7 +8,7 @@ use Rattle.asp_defs.specs.Games.{ascends, within, is_subset}
 use Rattle.asp_defs.proofs.Lists.{and_true, either, all_from}
 use Rattle.asp_defs.proofs.Subsets.{true_is_not_false, holds_from}
 use Rattle.asp_eval.specs.Covering.{IsWithin}
-use Rattle.asp_eval.proofs.Marking.{holds-set, same_number, blank}
+use Rattle.asp_entry.proofs.Marking.{holds-set, same_number, blank}
 
 pub within_none : (B : List ℕ) (n : ℕ) (values : List Bool) → values ≡ replicate n false → IsWithin (true_places values) B
 within_none B n values is a i = absurd (true_is_not_false (holds (true_places values) a) i (ap (λ vs. holds (true_places vs) a) is ∙ blank n a))

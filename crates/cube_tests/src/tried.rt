@@ -2,7 +2,7 @@
 ghost use Rattle.asp_defs.specs.Games.{IsValid};
 
 use crate::drawn::{Constraints, constraints, put_constraints};
-use crate::entries::is_held;
+use crate::holding::is_held;
 use crate::moves::outer_move;
 use crate::series::Series;
 use asp_defs::Game;
@@ -27,7 +27,7 @@ fn levels(form: u32) -> &'static str {
 }
 
 /// Adds that an atom is true, or that it is false.
-fn put_truth(text: &mut String, name: &'static str, truth: bool) -> Result<(), AllocError> {
+pub fn put_truth(text: &mut String, name: &'static str, truth: bool) -> Result<(), AllocError> {
     text.push_str(if truth { ":- not " } else { ":- " })?;
     text.push_str(name)?;
     text.push_str(".\n")
@@ -56,7 +56,7 @@ fn settled(alloc: Global, constraints: &Constraints, bits: u32) -> Result<String
 }
 
 /// Whether a text is coherent, by trying all sets.
-fn is_coherent(alloc: Global, text: &str) -> Option<bool> {
+pub fn is_coherent(alloc: Global, text: &str) -> Option<bool> {
     let game = game(alloc, text)?;
     if game.bases.atoms.len() > MOST_ATOMS {
         return None;

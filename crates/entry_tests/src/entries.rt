@@ -1,14 +1,10 @@
 //! Cubes whose literals are positive on even atoms and negative on odd ones, so that each holds the set of all even
 //! atoms.
-ghost use Rattle.std.specs.Prelude.{◌≡◌, IsTrue};
-ghost use Rattle.asp_bits.specs.Places.{true_places};
-ghost use Rattle.asp_defs.specs.Entries.{cube_holds};
-ghost use Rattle.asp_entry.specs.Cubes.{lits_ascend, are_lits_below};
-
 use asp_bits::Bits;
 use asp_defs::{List, Lit, NoMemory};
 use asp_entry::{Cube, Entry};
 use bases_tests::rows::expect;
+use cube_tests::holding::{do_ascend, is_held};
 use std::alloc::Global;
 use std::test::Fail;
 
@@ -22,16 +18,6 @@ fn lits(alloc: Global, atoms: &[u32]) -> Result<Vec<Lit>, NoMemory> {
         })?;
     }
     Ok(lits)
-}
-
-/// Whether the atoms strictly ascend.
-fn do_ascend(lits: &[Lit]) -> bool
-    ensures { result ≡ lits_ascend lits.now }
-{
-    match lits {
-        [first, rest @ ..] if !rest.is_empty() => first.atom < rest[0].atom && do_ascend(rest),
-        _ => true,
-    }
 }
 
 /// The cube of the literals on these atoms; none where they don't ascend.
@@ -66,19 +52,6 @@ fn even_atoms(alloc: Global, turned: Option<u32>) -> Result<Bits, NoMemory> {
         }
     }
     Ok(set)
-}
-
-fn are_in(lits: &[Lit], count: u32) -> bool
-    ensures { result ≡ are_lits_below count lits.now }
-{
-    lits.iter().all(|lit| lit.atom < count)
-}
-
-/// Whether the cube holds the set, which has a place for each of its atoms.
-pub fn is_held(cube: &Cube, set: &Bits) -> bool
-    ensures { IsTrue result → IsTrue (cube_holds cube.now (true_places set.now)) }
-{
-    are_in(cube.lits(), set.len()) && cube.holds(set)
 }
 
 /// Whether the cube holds the even atoms, with one place turned where one is given; none where memory is refused.

@@ -1,5 +1,5 @@
 use Rattle.std.proofs.Common.{length}
-use Rattle.cube_tests.proofs.entries.+do_ascend.Given as goal
+use Rattle.cube_tests.proofs.holding.+do_ascend.Given as goal
 
 abbrev pub decreases-do_ascend : goal.decreases-do_ascend
 decreases-do_ascend l = length l.lits.now
