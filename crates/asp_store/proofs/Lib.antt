@@ -1,0 +1,4 @@
+pub mod Held
+pub mod Keeping
+pub mod Adding
+pub mod Shelving
