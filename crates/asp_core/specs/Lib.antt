@@ -1,0 +1,4 @@
+pub mod Members
+pub mod Machines
+pub mod Events
+pub mod Laws
