@@ -1,0 +1,4 @@
+pub mod Counting
+pub mod Sorting
+pub mod Marking
+pub mod Denying
