@@ -1,0 +1,11 @@
+pub mod Fixing
+pub mod Places
+pub mod Saying
+pub mod Moves
+pub mod Learning
+pub mod Bases
+pub mod Loops
+pub mod LevelFacts
+pub mod Completion
+pub mod Giving
+pub mod Headed

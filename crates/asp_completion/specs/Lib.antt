@@ -1,0 +1,6 @@
+pub mod Codes
+pub mod Choices
+pub mod Levels
+pub mod Meanings
+pub mod Says
+pub mod Completions
