@@ -1,0 +1,11 @@
+pub mod Blocking
+pub mod Cores
+pub mod Measure
+pub mod Assumed
+pub mod Reading
+pub mod Judging
+pub mod Loops
+pub mod Below
+pub mod Recording
+pub mod Steps
+pub mod AskedFacts

@@ -1,0 +1,46 @@
+//! The work on one question.
+use asp_bits::Bits;
+use asp_defs::{Kind, List, Lit};
+use asp_search::Search;
+
+/// The last answer to a question.
+#[derive(Debug, Drop, Clone, Copy, PartialEq, Eq)]
+pub enum Answered {
+    /// None yet.
+    Nothing,
+    /// A move.
+    Found,
+    /// A core.
+    Core,
+    /// A search of this kind has spent the budget.
+    Spent(Kind),
+    /// Memory was refused.
+    NoMemory,
+}
+
+/// How often each kind of search has spent the budget.
+#[derive(Debug, Drop, Clone, Copy, PartialEq, Eq)]
+pub struct Counts {
+    /// The search for candidates.
+    pub searches: u64,
+    /// The check of a candidate.
+    pub checks: u64,
+}
+
+/// A question for moves, and what it is searched with.
+#[derive(Drop)]
+pub struct Work {
+    pub search: Search,
+    /// The search of the last check of a candidate.
+    pub check: Search,
+    pub outer: Bits,
+    pub region: List<Lit>,
+    /// Whether the least move is wanted first.
+    pub ordered: bool,
+    pub blocked: List<List<Lit>>,
+    /// The nogoods of all questions, in the order in which they were made.
+    pub nogoods: List<List<Lit>>,
+    /// The last candidate.
+    pub set: Bits,
+    pub last: Answered,
+}
