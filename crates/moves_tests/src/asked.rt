@@ -1,0 +1,195 @@
+//! The moves of a level as masks, asked for until none is left.
+ghost use Rattle.std.specs.Prelude.{◌≡◌, ◌≢◌, ◌≤◌, OnOk, IfSome};
+ghost use Rattle.asp_bits.specs.Places.{true_places};
+ghost use Rattle.asp_defs.specs.Games.{IsValid, level_count, base as base_of};
+ghost use Rattle.asp_game.specs.State.{Unasked, FoundMove};
+ghost use Rattle.moves_tests.specs.Asking.{IsAsked};
+
+use crate::questions::{base, is_region, literals, outer_move};
+use asp_answers::Answers;
+use asp_bits::Bits;
+use asp_defs::{Game, Lit, NoMemory};
+use asp_game::{Moves, Step};
+use bases_tests::texts::game;
+use std::alloc::Global;
+use std::sync::Arc;
+
+/// The moves of a level, ascending, as masks of their atoms, and the core: the atoms that it has as true, and those that it has as
+/// false.
+#[derive(Drop)]
+pub struct Listed {
+    pub moves: Vec<u32>,
+    pub core: (u32, u32),
+}
+
+/// The mask of an interpretation.
+fn mask(set: &Bits) -> u32 {
+    let mut mask = 0;
+    for atom in 0..set.len().min(32) {
+        mask |= u32::from(set.get(atom)) << atom;
+    }
+    mask
+}
+
+/// The mask of the atoms of the literals with this sign.
+fn part(literals: &[Lit], positive: bool) -> u32 {
+    let mut mask = 0;
+    for literal in literals {
+        if literal.positive == positive && literal.atom < 32 {
+            mask |= 1 << literal.atom;
+        }
+    }
+    mask
+}
+
+/// Appends the mask of the move that was found, and blocks it with all its literals.
+fn take(
+    alloc: Global,
+    answers: &mut Answers,
+    base: &[u32],
+    set: &Bits,
+    moves: &mut Vec<u32>,
+) -> Result<(), NoMemory>
+    requires base { base.now ≡ base_of answers.old.moves.game answers.old.moves.level }
+    requires found { answers.old.moves.last ≡ FoundMove (true_places set.now) }
+    ensures { OnOk result (IsAsked answers.old.moves answers.new.moves) }
+{
+    moves.push(mask(set))?;
+    let cube = literals(alloc, base, set)?;
+    answers.block(alloc, cube.as_slice())
+}
+
+/// The next move, which is blocked then, or the core; none where a fault comes.
+fn step(
+    alloc: Global,
+    answers: &mut Answers,
+    base: &[u32],
+    moves: &mut Vec<u32>,
+) -> Option<Option<(u32, u32)>>
+    requires base { base.now ≡ base_of answers.old.moves.game answers.old.moves.level }
+    requires asked { answers.old.moves.last ≢ Unasked }
+    ensures { IfSome result (λ end. IsAsked answers.old.moves answers.new.moves) }
+{
+    let Ok(step) = answers.next(alloc) else {
+        return None;
+    };
+    match step {
+        Step::Found(set) => {
+            if take(alloc, answers, base, &set, moves).is_err() {
+                return None;
+            }
+            Some(None)
+        }
+        Step::Core(core) => {
+            let literals = core.as_slice();
+            Some(Some((part(literals, true), part(literals, false))))
+        }
+    }
+}
+
+/// Appends all moves of the question, at most 256, each blocked with all its literals, and answers the core.
+fn list(
+    alloc: Global,
+    answers: &mut Answers,
+    base: &[u32],
+    moves: &mut Vec<u32>,
+) -> Option<(u32, u32)>
+    requires base { base.now ≡ base_of answers.old.moves.game answers.old.moves.level }
+    requires asked { answers.old.moves.last ≢ Unasked }
+    ensures { IfSome result (λ core. IsAsked answers.old.moves answers.new.moves) }
+{
+    for _ in 0..257 {
+        let end = step(alloc, answers, base, moves)?;
+        if let Some(core) = end {
+            return Some(core);
+        }
+    }
+    None
+}
+
+/// The moves of the question that was put last, and the core.
+pub fn all_moves(alloc: Global, answers: &mut Answers, base: &[u32]) -> Option<Listed>
+    requires base { base.now ≡ base_of answers.old.moves.game answers.old.moves.level }
+    requires asked { answers.old.moves.last ≢ Unasked }
+    ensures { IfSome result (λ listed. IsAsked answers.old.moves answers.new.moves) }
+{
+    let mut moves = Vec::new(alloc);
+    let core = list(alloc, answers, base, &mut moves)?;
+    moves.sort_unstable();
+    Some(Listed { moves, core })
+}
+
+/// The game of a text, to be shared.
+pub fn shared(alloc: Global, text: &str) -> Option<Arc<Game>>
+    ensures { IfSome result (λ game. IsValid game.value) }
+{
+    let game = game(alloc, text)?;
+    match Arc::new(alloc, game) {
+        Ok(shared) => Some(shared),
+        Err(_) => None,
+    }
+}
+
+/// The moves of a level, of which none was asked for yet.
+pub fn answers(alloc: Global, game: &Arc<Game>, level: u32, budget: u64) -> Option<Answers>
+    requires valid { IsValid game.now.value }
+    requires first { 1 ≤ level }
+    requires last { level ≤ level_count game.now.value }
+    ensures game { IfSome result (λ answers. answers.moves.game ≡ game.now.value) }
+    ensures level { IfSome result (λ answers. answers.moves.level ≡ level) }
+{
+    let Ok(shared) = game.clone() else {
+        return None;
+    };
+    match Answers::new(alloc, shared, level, budget) {
+        Ok(answers) => Some(answers),
+        Err(_) => None,
+    }
+}
+
+/// Puts a question.
+pub fn put(
+    alloc: Global,
+    answers: &mut Answers,
+    game: &Game,
+    level: u32,
+    outer: u32,
+    region: &[Lit],
+) -> Option<()>
+    requires valid { IsValid game.now }
+    requires first { 1 ≤ level }
+    requires last { level ≤ level_count game.now }
+    requires game { answers.old.moves.game ≡ game.now }
+    requires level { answers.old.moves.level ≡ level }
+    ensures { IfSome result (λ put. IsAsked answers.old.moves answers.new.moves) }
+{
+    if !is_region(game, level, region) {
+        return None;
+    }
+    let outer = outer_move(alloc, game, level, outer)?;
+    match answers.begin(alloc, &outer, region, false) {
+        Ok(()) => Some(()),
+        Err(_) => None,
+    }
+}
+
+/// Puts a question, and answers all its moves and the core.
+pub fn ask(
+    alloc: Global,
+    answers: &mut Answers,
+    game: &Game,
+    level: u32,
+    outer: u32,
+    region: &[Lit],
+) -> Option<Listed>
+    requires valid { IsValid game.now }
+    requires first { 1 ≤ level }
+    requires last { level ≤ level_count game.now }
+    requires game { answers.old.moves.game ≡ game.now }
+    requires level { answers.old.moves.level ≡ level }
+    ensures game { IfSome result (λ listed. answers.new.moves.game ≡ game.now) }
+    ensures level { IfSome result (λ listed. answers.new.moves.level ≡ level) }
+{
+    put(alloc, answers, game, level, outer, region)?;
+    all_moves(alloc, answers, base(game, level))
+}
