@@ -14,7 +14,7 @@ use Rattle.asp_defs.specs.Entries.{cube_holds, stands_at, held_moves}
 use Rattle.asp_defs.specs.Unknowns.{enough_placements}
 use Rattle.asp_game.specs.declared.step.Step.{Step}
 use Rattle.asp_game.specs.declared.step.Step.TheVariants.{Found, Core}
-use Rattle.asp_game.specs.State.{MovesState, Last, FoundMove, FoundCore, Gave}
+use Rattle.asp_game.specs.State.{MovesState, Last, FoundMove, FoundCore, Gave, left_out}
 use Rattle.asp_game.specs.Questions.{open_moves}
 
 -- a move that was asked for, as truth values of all atoms
@@ -22,9 +22,9 @@ pub record IsFound (s : MovesState) (set : List Bool) : Type 0 where
   pub places : length set ≡ length s.game.bases.atoms
   pub open_move : IsIn (true_places set) (open_moves s s.outer)
 
--- whether an atom stands in a rule or bound of the level or in one of the blocked cubes
+-- whether an atom stands in a rule or bound of the level or in one of the cubes that are left out
 abbrev pub is_named : MovesState → ℕ → Bool
-is_named s a = stands_at s.game s.level a || list_any (λ cube. list_any (λ l. l.atom == a) cube) s.blocked
+is_named s a = stands_at s.game s.level a || list_any (λ cube. list_any (λ l. l.atom == a) cube) (left_out s)
 
 -- a part of the outer move, its atoms ascending, so that no move that is asked for comes after any outer move that has it
 pub record IsCore (s : MovesState) (core : List Lit) : Type 0 where
@@ -56,12 +56,16 @@ pub record GoesOn (old new : MovesState) : Type 0 where
   pub searches : old.searches ≤ new.searches
   pub checks : old.checks ≤ new.checks
 
+-- whether a cube's atoms are in the level's base
+abbrev pub is_on_base : MovesState → List Lit → Bool
+is_on_base s cube = list_all (λ l. holds (base s.game s.level) l.atom) cube
+
 -- the last move is in the cube, and the cube's atoms are in the level's base
 pub record IsBlockable (s : MovesState) (cube : List Lit) : Type 0 where
   pub set : List ℕ
   pub found : s.last ≡ FoundMove set
   pub inside : IsTrue (cube_holds cube set)
-  pub atoms : IsTrue (list_all (λ l. holds (base s.game s.level) l.atom) cube)
+  pub atoms : IsTrue (is_on_base s cube)
 
 -- the last answer after an answer
 abbrev pub last_after : Result Step Give → Last

@@ -7,7 +7,7 @@ use Rattle.asp_defs.specs.Interpretations.{holds}
 use Rattle.asp_defs.specs.Games.{base, is_subset}
 use Rattle.asp_defs.specs.Values.{moves}
 use Rattle.asp_defs.specs.Entries.{cube_holds}
-use Rattle.asp_game.specs.State.{MovesState}
+use Rattle.asp_game.specs.State.{MovesState, left_out}
 
 -- whether an interpretation is an outer move of a level: a subset of the base below it
 abbrev pub is_outer : Game → ℕ → List ℕ → Bool
@@ -30,10 +30,10 @@ is_region g i region = list_all (is_own_literal g i) region && atoms_differ regi
 abbrev pub is_outside : List (List Lit) → List ℕ → Bool
 is_outside cubes N = list_all (λ cube. not (cube_holds cube N)) cubes
 
--- whether an interpretation is in a region and outside all blocked cubes
+-- whether an interpretation is in a region and outside all cubes that are left out
 abbrev pub is_open : List Lit → List (List Lit) → List ℕ → Bool
-is_open region blocked N = cube_holds region N && is_outside blocked N
+is_open region cubes N = cube_holds region N && is_outside cubes N
 
--- the moves after an outer move that are in the region and outside all blocked cubes, in the order of interpretations
+-- the moves after an outer move that are in the region and outside all cubes that are left out, in the order of interpretations
 abbrev pub open_moves : MovesState → List ℕ → List (List ℕ)
-open_moves s M = filter (is_open s.region s.blocked) (moves s.game s.level M)
+open_moves s M = filter (is_open s.region (left_out s)) (moves s.game s.level M)

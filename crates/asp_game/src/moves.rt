@@ -4,9 +4,9 @@ ghost use Rattle.asp_bits.specs.Places.{true_places};
 ghost use Rattle.asp_defs.specs.declared.faults.Give.{Give};
 ghost use Rattle.asp_defs.specs.declared.faults.Unknown.{Unknown};
 ghost use Rattle.asp_defs.specs.declared.ground.Lit.{Lit};
-ghost use Rattle.asp_game.specs.State.{MovesState, Unasked, Gave, asked, with_blocked, without_memory};
+ghost use Rattle.asp_game.specs.State.{MovesState, Unasked, Gave, asked, with_blocked, with_kept, without_memory, without_cube};
 ghost use Rattle.asp_game.specs.Questions.{is_outer, is_region};
-ghost use Rattle.asp_game.specs.Answers.{IsFound, IsCore, IsSpent, GoesOn, IsBlockable, last_after};
+ghost use Rattle.asp_game.specs.Answers.{IsFound, IsCore, IsSpent, GoesOn, IsBlockable, is_on_base, last_after};
 
 use crate::step::Step;
 use asp_bits::Bits;
@@ -23,9 +23,12 @@ use std::alloc::Global;
 /// | `next` after spent or no memory | the same again | the same |
 /// | `block` after a move | ok | that move |
 /// | `block` after a move | no memory | no memory |
+/// | `keep` | ok | as before |
+/// | `keep` before a question | no memory | none |
+/// | `keep` after a question | no memory | no memory |
 pub trait Moves {
-    /// The game, the level and the budget, which never change; the question; what was blocked and answered since; and how
-    /// often a budget was spent.
+    /// The game, the level and the budget, which never change; what is left out for good; the question; what was blocked and
+    /// answered since; and how often a budget was spent.
     ghost state: { Self → MovesState };
 
     /// Puts a question: the moves after an outer move that have the literals of a region. `ordered` says that the least move is
@@ -64,4 +67,11 @@ pub trait Moves {
         requires { IsBlockable (state self.old) cube.now }
         ensures blocked { OnOk result (state self.new ≡ with_blocked (state self.old) cube.now) }
         ensures no_memory { OnErr result (state self.new ≡ without_memory (state self.old)) };
+
+    /// Leaves out the moves that have these literals, in this question and all later ones. `NoMemory`: memory was refused; a
+    /// question that was put answers so until the next one.
+    fn keep(&mut self, alloc: Global, cube: &[Lit]) -> Result<(), NoMemory>
+        requires { IsTrue (is_on_base (state self.old) cube.now) }
+        ensures kept { OnOk result (state self.new ≡ with_kept (state self.old) cube.now) }
+        ensures no_memory { OnErr result (state self.new ≡ without_cube (state self.old)) };
 }
