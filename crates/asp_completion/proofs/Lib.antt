@@ -7,5 +7,7 @@ pub mod Bases
 pub mod Loops
 pub mod LevelFacts
 pub mod Completion
-pub mod Giving
+pub mod Linking
+pub mod Chaining
 pub mod Headed
+pub mod Distributing

@@ -4,7 +4,7 @@ ghost use Rattle.asp_defs.specs.Interpretations.{holds};
 ghost use Rattle.asp_defs.specs.declared.ground.Lit.{Lit};
 ghost use Rattle.asp_defs.specs.Lists.{IsIn};
 ghost use Rattle.asp_defs.specs.Games.{within, rule_atoms};
-ghost use Rattle.asp_completion.specs.Codes.{code as code_of, codes, literal as literal_of, rule_literals};
+ghost use Rattle.asp_completion.specs.Codes.{code as code_of, codes as codes_of, literal as literal_of, rule_literals};
 ghost use Rattle.asp_completion.specs.Levels.{game_at, upper, rules_at, IsLevel};
 ghost use Rattle.asp_completion.specs.Meanings.{HasRule, AddsTo, AddsLooselyTo};
 ghost use Rattle.asp_completion.specs.Says.{Extends};
@@ -41,7 +41,7 @@ fn push_atoms(
 pub fn push_literals(level: &Level, literals: &[Lit], clause: &mut Vec<u32>) -> Result<(), NoMemory>
     requires ready { IsLevel level.now }
     requires inside { (l : Lit) → IsIn l literals.now → holds (upper level.now) l.atom ≡ true }
-    ensures { OnOk result (clause.new.items ≡ clause.old.items ++ codes (upper level.now) literals.now) }
+    ensures { OnOk result (clause.new.items ≡ clause.old.items ++ codes_of (upper level.now) literals.now) }
 {
     for literal in literals {
         clause.push(level.code(*literal))?;
@@ -54,7 +54,7 @@ pub fn push_literals(level: &Level, literals: &[Lit], clause: &mut Vec<u32>) -> 
 fn write_rule(level: &Level, rule: &GroundRule, clause: &mut Vec<u32>) -> Result<(), NoMemory>
     requires ready { IsLevel level.now }
     requires inside { within (rule_atoms rule.now) (upper level.now) ≡ true }
-    ensures { OnOk result (clause.new.items ≡ codes (upper level.now) (rule_literals rule.now)) }
+    ensures { OnOk result (clause.new.items ≡ codes_of (upper level.now) (rule_literals rule.now)) }
 {
     clause.clear();
     push_atoms(level, rule.head.as_slice(), true, clause)?;
@@ -110,12 +110,31 @@ pub fn add_loosely(
     requires ready { IsLevel level.now }
     requires atoms { search.old.atoms ≡ length (upper level.now) }
     requires inside { (l : Lit) → IsIn l literals.now → holds (upper level.now) l.atom ≡ true }
-    ensures added { OnOk result (AddsLooselyTo search.old search.new (codes (upper level.now) literals.now)) }
+    ensures added { OnOk result (AddsLooselyTo search.old search.new (codes_of (upper level.now) literals.now)) }
     ensures unchanged { OnErr result (search.new ≡ search.old) }
 {
     let mut clause = Vec::new(alloc);
     push_literals(level, literals, &mut clause)?;
     search.add_loose(alloc, clause.as_slice())
+}
+
+/// Adds literals as a clause, written into `codes`.
+pub fn add_clause(
+    alloc: Global,
+    level: &Level,
+    literals: &[Lit],
+    codes: &mut Vec<u32>,
+    search: &mut Search,
+) -> Result<(), NoMemory>
+    requires ready { IsLevel level.now }
+    requires atoms { search.old.atoms ≡ length (upper level.now) }
+    requires inside { (l : Lit) → IsIn l literals.now → holds (upper level.now) l.atom ≡ true }
+    ensures added { OnOk result (AddsTo search.old search.new (codes_of (upper level.now) literals.now)) }
+    ensures unchanged { OnErr result (search.new ≡ search.old) }
+{
+    codes.clear();
+    push_literals(level, literals, codes)?;
+    search.add(alloc, codes.as_slice())
 }
 
 /// Adds literals as a clause.
@@ -128,10 +147,9 @@ pub fn add_literals(
     requires ready { IsLevel level.now }
     requires atoms { search.old.atoms ≡ length (upper level.now) }
     requires inside { (l : Lit) → IsIn l literals.now → holds (upper level.now) l.atom ≡ true }
-    ensures added { OnOk result (AddsTo search.old search.new (codes (upper level.now) literals.now)) }
+    ensures added { OnOk result (AddsTo search.old search.new (codes_of (upper level.now) literals.now)) }
     ensures unchanged { OnErr result (search.new ≡ search.old) }
 {
-    let mut clause = Vec::new(alloc);
-    push_literals(level, literals, &mut clause)?;
-    search.add(alloc, clause.as_slice())
+    let mut codes = Vec::new(alloc);
+    add_clause(alloc, level, literals, &mut codes, search)
 }

@@ -1,56 +1,116 @@
-//! How many heads of a level's rules have an atom.
-ghost use Rattle.std.specs.Prelude.{◌≡◌, ◌≢◌, ◌<◌, ◌+◌, ℕ, [], min, length, IfOk};
-ghost use Rattle.asp_defs.specs.Lists.{IsIn};
-ghost use Rattle.asp_completion.specs.Levels.{game_at, lower, IsLevel};
-ghost use Rattle.asp_completion.specs.Completions.{Raised, Counts, AreCounts};
+//! Which rules of a level head an atom.
+ghost use Rattle.std.specs.Prelude.{◌≡◌, ◌<◌, ◌≤◌, ◌+◌, ℕ, length, get_or, drop, IfOk, OnOk};
+ghost use Rattle.asp_completion.specs.Levels.{game_at, lower, rules_at, IsLevel};
+ghost use Rattle.asp_completion.specs.Supporters.{supporters};
+ghost use Rattle.asp_completion.specs.Chains.{no_chain, no_rule, AreLower, PushesLink, HasHeads, Headed};
 
 use crate::level::Level;
-use asp_defs::NoMemory;
+use asp_defs::{GroundRule, NoMemory};
 use std::alloc::Global;
 
-/// One more, and 2 for more than one.
-fn next(count: u8) -> u8
-    ensures some { result ≢ 0 }
-    ensures once { result ≡ 1 → count ≡ 0 }
-    ensures is { result ≡ min 2 (count + 1) }
-{
-    if count == 0 { 1 } else { 2 }
+/// A rule that heads an atom.
+#[derive(Clone, Copy)]
+pub struct Link {
+    /// The place of the rule among the level's rules.
+    pub rule: usize,
+    /// The next link of the atom's chain, where it has one.
+    pub next: usize,
 }
 
-/// Counts the atoms of a head.
-fn raise(heads: &[u32], table: &mut Vec<u8>)
-    requires inside { (a : ℕ) → IsIn a heads.now → a < length table.old.items }
-    ensures { Raised heads.now table.old.items table.new.items }
-{
-    for atom in heads {
-        let count = table[*atom as usize];
-        table[*atom as usize] = next(count);
-    }
+/// The rules that head an atom, as a chain of links.
+#[derive(Clone, Copy)]
+pub struct Chain {
+    /// How many links it has.
+    pub count: usize,
+    /// The first link, where it has one.
+    pub link: usize,
 }
 
-/// A table that has 2 at the atoms of the base below, and 0 elsewhere.
-fn lower_table(alloc: Global, level: &Level) -> Result<Vec<u8>, NoMemory>
+/// By the atoms of a game: which rules of a level head them.
+#[derive(Drop)]
+pub struct Heads {
+    pub chains: Vec<Chain>,
+    pub links: Vec<Link>,
+}
+
+/// Puts a rule before those of the atom's chain.
+fn push_link(heads: &mut Heads, atom: u32, rule: usize) -> Result<(), NoMemory>
+    requires inside { atom < length heads.old.chains.items }
+    requires counted { (get_or heads.old.chains.items atom no_chain).count ≤ length heads.old.links.items }
+    ensures { OnOk result (PushesLink atom rule heads.old heads.new) }
+{
+    let chain = heads.chains[atom as usize];
+    let link = heads.links.len();
+    heads.links.push(Link {
+        rule,
+        next: chain.link,
+    })?;
+    heads.chains[atom as usize] = Chain {
+        count: chain.count + 1,
+        link,
+    };
+    Ok(())
+}
+
+/// The rule at a place.
+fn rule_at(level: &Level, place: usize) -> &GroundRule
     requires ready { IsLevel level.now }
-    ensures { IfOk result (λ table. Counts (lower level.now) [] (length (game_at level.now).bases.atoms) table.items) }
-{
-    let base = level.lower();
-    let mut table = Vec::from_elem(alloc, 0u8, level.atoms() as usize)?;
-    for atom in base {
-        table[*atom as usize] = 2;
-    }
-    Ok(table)
-}
-
-/// By the atoms of the game: at how many places of heads of the level's rules it stands, and 2 for more than one and for the
-/// atoms of the base below.
-pub fn count_heads(alloc: Global, level: &Level) -> Result<Vec<u8>, NoMemory>
-    requires ready { IsLevel level.now }
-    ensures { IfOk result (λ table. AreCounts level.now table.items) }
+    requires place { place < length (rules_at level.now) }
+    ensures { result.now ≡ get_or (rules_at level.now) place no_rule }
 {
     let rules = level.rules();
-    let mut table = lower_table(alloc, level)?;
-    for rule in rules {
-        raise(rule.head.as_slice(), &mut table);
+    &rules[place]
+}
+
+/// Puts the rule at a place before those of the chains of its head's atoms.
+fn add_heads(level: &Level, place: usize, heads: &mut Heads) -> Result<(), NoMemory>
+    requires ready { IsLevel level.now }
+    requires place { place < length (rules_at level.now) }
+    requires later { Headed level.now (supporters (drop (place + 1) (rules_at level.now))) heads.old }
+    ensures { OnOk result (Headed level.now (supporters (drop place (rules_at level.now))) heads.new) }
+{
+    let rule = rule_at(level, place);
+    let atoms = rule.head.as_slice();
+    for atom in atoms {
+        push_link(heads, *atom, place)?;
+    }
+    Ok(())
+}
+
+/// Chains of no rules.
+fn no_heads(alloc: Global, level: &Level) -> Result<Heads, NoMemory>
+    requires ready { IsLevel level.now }
+    ensures { IfOk result (λ heads. Headed level.now (supporters (drop (length (rules_at level.now)) (rules_at level.now))) heads) }
+{
+    let none = Chain { count: 0, link: 0 };
+    let chains = Vec::from_elem(alloc, none, level.atoms() as usize)?;
+    let links = Vec::new(alloc);
+    Ok(Heads { chains, links })
+}
+
+/// Which rules of the level head the atoms of the game, in the order of the rules; a rule whose head has an atom twice stands
+/// there twice.
+pub fn find_heads(alloc: Global, level: &Level) -> Result<Heads, NoMemory>
+    requires ready { IsLevel level.now }
+    ensures { IfOk result (λ heads. HasHeads level.now heads) }
+{
+    let rules = level.rules();
+    let mut heads = no_heads(alloc, level)?;
+    for place in (0..rules.len()).rev() {
+        add_heads(level, place, &mut heads)?;
+    }
+    Ok(heads)
+}
+
+/// By the atoms of the game: whether the base below has it.
+pub fn lower_table(alloc: Global, level: &Level) -> Result<Vec<bool>, NoMemory>
+    requires ready { IsLevel level.now }
+    ensures { IfOk result (λ table. AreLower (lower level.now) (length (game_at level.now).bases.atoms) table.items) }
+{
+    let base = level.lower();
+    let mut table = Vec::from_elem(alloc, false, level.atoms() as usize)?;
+    for atom in base {
+        table[*atom as usize] = true;
     }
     Ok(table)
 }

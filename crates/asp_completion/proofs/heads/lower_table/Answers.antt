@@ -1,14 +1,15 @@
-use Rattle.std.proofs.Common.{◌∙◌, ap, replicate, ◌<◌, ℕ, List, length, subst, arith}
+use Rattle.std.proofs.Common.{◌∙◌, ap, replicate, ◌<◌, ℕ, List, false, length, subst, arith}
 use Rattle.std.proofs.lemmas.List.{take_all}
-use Rattle.asp_completion.specs.Levels.{game_at, lower}
+use Rattle.asp_completion.specs.Levels.{game_at}
+use Rattle.asp_completion.specs.Chains.{AreLower}
 use Rattle.asp_completion.proofs.LevelFacts.{lower-atom}
-use Rattle.asp_completion.proofs.Headed.{HasLower, lower-none, lower-step, counts-none}
+use Rattle.asp_completion.proofs.Linking.{lower-none, lower-step}
 use Rattle.asp_completion.proofs.heads.lower_table.Goals as goal
 
 pub loop-atom-init : goal.loop-atom-init
 loop-atom-init c =
     lower-none (length (game_at c.args.level.now).bases.atoms) c.in_ok-table.table.items
-    (c.in_ok-table.ensures.items_if_clones_equal (λ y e. e) ∙ ap (λ n. replicate n 0) c.atoms.ensures)
+    (c.in_ok-table.ensures.items_if_clones_equal (λ y e. e) ∙ ap (λ n. replicate n false) c.atoms.ensures)
 
 pub index_mut-requires : goal.index_mut-requires
 index_mut-requires c =
@@ -29,8 +30,6 @@ loop-atom-preserved c =
 
 pub returns : goal.returns
 returns c =
-    let atoms : ℕ = length (game_at c.args.level.now).bases.atoms in
-    counts-none (lower c.args.level.now) atoms c.loop-atom.table.items
-    (subst (λ (xs : List ℕ). HasLower xs atoms c.loop-atom.table.items)
+    subst (λ (xs : List ℕ). AreLower xs (length (game_at c.args.level.now).bases.atoms) c.loop-atom.table.items)
     (take_all c.loop-atom.atom-index c.lower-base.result.now c.loop-atom-test.false ∙ c.lower-base.ensures)
-    c.loop-atom.invariant)
+    c.loop-atom.invariant

@@ -5,13 +5,13 @@ use Rattle.asp_completion.specs.Codes.{codes}
 use Rattle.asp_completion.specs.Levels.{upper}
 use Rattle.asp_completion.proofs.Places.{codes-below}
 use Rattle.asp_completion.proofs.Loops.{adds_to_as}
-use Rattle.asp_completion.proofs.clauses.add_literals.Goals as goal
-use Rattle.asp_completion.proofs.clauses.add_literals.Goals.{After-as_slice}
+use Rattle.asp_completion.proofs.clauses.add_clause.Goals as goal
+use Rattle.asp_completion.proofs.clauses.add_clause.Goals.{After-as_slice}
 
 clause_is : (c : After-as_slice) → c.as_slice.result.now ≡ codes (upper c.args.level.now) c.args.literals.now
 clause_is c =
     c.as_slice.ensures.value
-    ∙ (c.in_ok-push_literals.ensures ∙ ap (λ (xs : List ℕ). xs ++ codes (upper c.args.level.now) c.args.literals.now) c.new-clause.ensures.items)
+    ∙ (c.in_ok-push_literals.ensures ∙ ap (λ (xs : List ℕ). xs ++ codes (upper c.args.level.now) c.args.literals.now) c.clear.ensures.items)
 
 pub add-requires : goal.add-requires
 add-requires c =
