@@ -1,0 +1,2 @@
+pub mod FoundedAtoms
+pub mod PartLemmas
