@@ -5,3 +5,4 @@ pub mod Places
 pub mod Verdicts
 pub mod Stating
 pub mod Reasons
+pub mod Settled

@@ -1,5 +1,5 @@
 -- Places that are written, their numbers, and the places of atoms that leave.
-use Rattle.std.proofs.Common.{ℕ, zero, suc, ◌+◌, ◌<◌, ◌≤◌, ◌≡◌, ◌≢◌, refl, sym, ◌∙◌, ap, subst, inl, inr, Bool, true, false, not, ◌&&◌, ◌||◌, cond, eqb, nat_eq, List, [], ◌∷◌, ◌++◌, length, get_or, set, take, map, Option, Some, None, arith}
+use Rattle.std.proofs.Common.{ℕ, zero, suc, ◌+◌, ◌<◌, ◌≤◌, ◌≡◌, ◌≢◌, refl, sym, ◌∙◌, ap, subst, inl, inr, Bool, true, false, not, ◌&&◌, ◌||◌, cond, eqb, List, [], ◌∷◌, ◌++◌, length, get_or, set, take, map, Option, Some, None, arith}
 use Rattle.std.specs.Bool.{beq}
 use Rattle.std.specs.List.{filter, slice_get}
 use Rattle.std.proofs.lemmas.Bool.{cases_eq, cases_lt, eq-eqb, ne_eqb, or_left}
@@ -35,16 +35,6 @@ pub value_is : (value b : Bool) → has_value value b ≡ true → b ≡ value
 value_is true b h = h
 value_is false true h = absurd (cc)
 value_is false false h = refl
-
--- whether a place is true and another than a given one, from what was read there
-pub other-read : (values : List Bool) (a b : ℕ) (x : Bool) → slice_get values b ≡ Some x → x ≡ true
-    → not (nat_eq a b) ≡ (holds (true_places values) b && not (holds (a ∷ []) b))
-other-read values a b x read is =
-    ap not (alone (nat_eq a b)) ∙ sym (ap (λ t. t && not (holds (a ∷ []) b)) (holds-read values b x read ∙ is))
-  where
-    alone : (t : Bool) → t ≡ t || false
-    alone true = refl
-    alone false = refl
 
 -- ---- places that are written
 

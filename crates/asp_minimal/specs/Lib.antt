@@ -3,3 +3,4 @@ pub mod Choices
 pub mod Demands
 pub mod Nogoods
 pub mod Numbers
+pub mod Settling

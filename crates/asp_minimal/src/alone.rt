@@ -5,12 +5,13 @@ ghost use Rattle.std.specs.List.{list_all};
 ghost use Rattle.asp_bits.specs.Places.{true_places};
 ghost use Rattle.asp_defs.specs.Interpretations.{holds};
 ghost use Rattle.asp_defs.specs.Unfounded.{is_unfounded};
-ghost use Rattle.asp_reduct.specs.Bounds.{are_below, is_rule_below};
+ghost use Rattle.asp_reduct.specs.Bounds.{is_rule_below};
 ghost use Rattle.asp_minimal.specs.Alone.{supports_where_headed, Clears};
 
 use crate::numbers::write;
 use asp_bits::Bits;
 use asp_defs::{GroundRule, NoMemory};
+use asp_least::no_other;
 use asp_reduct::{body_true, first_true};
 use std::alloc::Global;
 
@@ -19,28 +20,6 @@ fn is_absent(atoms: &[u32], atom: u32) -> bool
     ensures { result ≡ list_all (λ a. not (holds (atom ∷ []) a)) atoms.now }
 {
     atoms.iter().all(|other| atom != *other)
-}
-
-/// Whether the other atom is true and another one.
-fn is_other(other: u32, set: &Bits, atom: u32) -> bool
-    requires { other < length set.now }
-    ensures { result ≡ (holds (true_places set.now) other && not (holds (atom ∷ []) other)) }
-{
-    let inside = set.get(other);
-    inside && atom != other
-}
-
-/// Whether none of the atoms but this one is true.
-fn no_other(atoms: &[u32], set: &Bits, atom: u32) -> bool
-    requires { IsTrue (are_below (length set.now) atoms.now) }
-    ensures { result ≡ list_all (λ a. not (holds (true_places set.now) a && not (holds (atom ∷ []) a))) atoms.now }
-{
-    for other in atoms {
-        if is_other(*other, set, atom) {
-            return false;
-        }
-    }
-    true
 }
 
 /// Whether the rule, in whose head the atom stands, supports it alone: the body is true, the atom isn't in the positive body, and
@@ -68,7 +47,7 @@ fn clear_supported(alone: &mut Bits, rule: &GroundRule, set: &Bits)
 }
 
 /// The first true place, or none where all are false.
-fn first_place(bits: &Bits) -> Option<u32>
+pub fn first_place(bits: &Bits) -> Option<u32>
     ensures { MatchOption result
         ((a : ℕ) → holds (true_places bits.now) a ≡ false)
         (λ a. holds (true_places bits.now) a ≡ true) }

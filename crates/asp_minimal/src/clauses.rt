@@ -45,7 +45,7 @@ fn push_literals(
 }
 
 /// Whether each true one of the atoms is in the part.
-fn is_within(atoms: &[u32], set: &Bits, part: &Bits) -> bool
+pub fn is_within(atoms: &[u32], set: &Bits, part: &Bits) -> bool
     requires below { IsTrue (are_below (length set.now) atoms.now) }
     requires same_length { length part.now ≡ length set.now }
     ensures { result ≡ is_closed (true_places set.now) (true_places part.now) atoms.now }

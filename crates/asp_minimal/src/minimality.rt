@@ -17,6 +17,7 @@ ghost use Rattle.asp_minimal.specs.Numbers.{written, AreNumbers, leaves};
 use crate::alone::unsupported;
 use crate::clauses::{add_leaving, add_rules};
 use crate::numbers::{leaving, numbered, write};
+use crate::settling::settled;
 use asp_bits::Bits;
 use asp_defs::{Give, GroundRule, Kind, List, NoMemory, Unknown};
 use asp_search::{Outcome, Search, SearchFault};
@@ -68,8 +69,8 @@ fn prepare(
 /// Whether `set` is an answer set of the rules with a free choice on each atom of `free`.
 ///
 /// `search` is a new one with an atom for each true atom of the set that isn't in `free`; it is given the clauses of the
-/// smaller models. Where an atom alone is an unfounded set, the answer is one such atom, and the search isn't asked. The time is
-/// linear in the lengths of the rules, of `free` and of the set, beside the search's own.
+/// smaller models. Where an atom alone is an unfounded set, the answer is one such atom, and the search isn't asked, nor is it where
+/// no rule has two true head atoms. The time is linear in the lengths of the rules, of `free` and of the set, beside the search's own.
 ///
 /// `Spent`: the search has placed as many literals as its budget allows; the answer names `level` and that budget.
 /// `NoMemory`: memory was refused.
@@ -101,6 +102,9 @@ pub fn minimal(
     let part = bound(alloc, set, free)?;
     if let Some(atom) = unsupported(alloc, rules, set, &part)? {
         return Ok(Minimality::No(List::from_slice(alloc, &[atom])?));
+    }
+    if let Some(answer) = settled(alloc, rules, set, &part)? {
+        return Ok(answer);
     }
     let numbers = numbered(alloc, &part)?;
     prepare(alloc, search, rules, set, &part, numbers.as_slice())?;

@@ -1,13 +1,15 @@
-use Rattle.std.proofs.Common.{◌≡◌, ℕ, false, List, [], ◌∷◌, length, Ok, sym, ap, ◌∙◌, subst}
+use Rattle.std.proofs.Common.{◌≡◌, ℕ, false, List, [], ◌∷◌, length, Ok, Some, sym, ap, ◌∙◌, subst}
 use Rattle.asp_bits.specs.Places.{true_places}
 use Rattle.asp_minimal.specs.Choices.{Refutes}
 use Rattle.asp_search.specs.Found.{assignment_of}
 use Rattle.asp_minimal.specs.Numbers.{numbers_from, leaving_places}
 use Rattle.asp_minimal.proofs.Places.{length-written, length-numbers_from, numbers_fit}
 use Rattle.asp_minimal.proofs.Lone.{part_inside, alone_refutes, none_alone}
+use Rattle.asp_minimal.specs.declared.minimality.Minimality.TheVariants as minimality
+use Rattle.asp_minimal.proofs.Settled.{refutes_from_part, answer_set_when_founded}
 use Rattle.asp_minimal.proofs.Verdicts.{refutes_when_found, not_answer_set, answer_set_when_core}
 use Rattle.asp_minimal.proofs.minimality.minimal.Goals as goal
-use Rattle.asp_minimal.proofs.minimality.minimal.Goals.{After-as_slice, After-drop-part-inside-in-Some, After-drop-part-inside-in-Ok-Found}
+use Rattle.asp_minimal.proofs.minimality.minimal.Goals.{After-as_slice, After-drop-part-inside-in-Some, After-drop-part-inside-in-Some-2, After-drop-part-inside-in-Ok-Found}
 
 pub unsupported-requires-clause-inside : goal.unsupported-requires-clause-inside
 unsupported-requires-clause-inside c = part_inside c.args.set.now c.in_ok-part.part c.args.free.now c.in_ok-part.ensures
@@ -89,3 +91,34 @@ returns-in-Ok-Found-clause-alone c = λ u a e h.
 
 pub prepare-requires-clause-firm : goal.prepare-requires-clause-firm
 prepare-requires-clause-firm c = c.requires.fresh.firm ∙ sym c.requires.fresh.clauses
+
+-- ---- the answer that wants no search
+
+pub settled-requires-clause-same_length : goal.settled-requires-clause-same_length
+settled-requires-clause-same_length c = ap length c.in_ok-part.ensures ∙ length-written false c.args.set.now c.args.free.now
+
+pub returns-in-Some-2-clause-yes : goal.returns-in-Some-2-clause-yes
+returns-in-Some-2-clause-yes c = λ e.
+    let same : c.in-Some-2.answer ≡ minimality.Yes = cc in
+    answer_set_when_founded c.args.rules.now c.args.free.now c.args.set.now c.in_ok-part.part c.in_ok-part.ensures c.requires.model
+    (c.in_ok-answer.ensures.yes (c.in-Some-2.is ∙ ap (λ m. Some m) same))
+
+refutes_settled : (c : After-drop-part-inside-in-Some-2) → (u : List ℕ) → c.in-Some-2.answer ≡ minimality.No u
+    → Refutes c.args.rules.now c.args.free.now (true_places c.args.set.now) u
+refutes_settled c u is =
+    refutes_from_part c.args.rules.now c.args.free.now c.args.set.now c.in_ok-part.part u c.in_ok-part.ensures
+    (c.in_ok-answer.ensures.no u (c.in-Some-2.is ∙ ap (λ m. Some m) is))
+
+pub returns-in-Some-2-clause-no : goal.returns-in-Some-2-clause-no
+returns-in-Some-2-clause-no c = λ u e.
+    let same : c.in-Some-2.answer ≡ minimality.No u = cc in
+    not_answer_set c.args.rules.now c.args.free.now (true_places c.args.set.now) u (refutes_settled c u same)
+
+pub returns-in-Some-2-clause-unfounded : goal.returns-in-Some-2-clause-unfounded
+returns-in-Some-2-clause-unfounded c = λ u e.
+    let same : c.in-Some-2.answer ≡ minimality.No u = cc in
+    refutes_settled c u same
+
+pub returns-in-Some-2-clause-alone : goal.returns-in-Some-2-clause-alone
+returns-in-Some-2-clause-alone c = λ u a e h.
+    absurd (none_alone c.args.rules.now c.args.free.now c.args.set.now c.in_ok-part.part a c.in_ok-part.ensures (rw c.in_default.is at c.in_ok-atom.ensures) h)
