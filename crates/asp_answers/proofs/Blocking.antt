@@ -11,7 +11,7 @@ use Rattle.asp_defs.specs.Lists.{IsIn}
 use Rattle.asp_defs.specs.Interpretations.{holds}
 use Rattle.asp_defs.specs.Games.{base}
 use Rattle.asp_defs.specs.Entries.{lit_true, cube_holds, stands_at}
-use Rattle.asp_defs.proofs.Lists.{both, and_true, either, or_left, or_right, any_at, any_from, append_left, append_right, map_at}
+use Rattle.asp_defs.proofs.Lists.{both, and_true, either, or_left, or_right, all_at, all_from, any_at, any_from, append_at, append_left, append_right, map_at}
 use Rattle.asp_defs.proofs.Subsets.{holds_at}
 use Rattle.asp_search.specs.Meaning.{AddsClause}
 use Rattle.asp_game.specs.Questions.{is_outside}
@@ -139,3 +139,55 @@ sound-beside g i blocked lits sound = record {
     or_none : (b : Bool) → b || false ≡ true → b ≡ true
     or_none true e = refl
     or_none false e = absurd (cc)
+
+-- ---- the same cubes in another order
+
+-- what clauses say doesn't depend on the order of the cubes
+pub means-members : (g : Game) (i : ℕ) (rules : List GroundRule) (cubes others : List (List Lit)) (clauses : List (List ℕ))
+    → ((c : List Lit) → IsIn c cubes → IsIn c others) → ((c : List Lit) → IsIn c others → IsIn c cubes)
+    → Means g i rules cubes clauses → Means g i rules others clauses
+means-members g i rules cubes others clauses there back means =
+    record {
+      sound = λ M N v outer move out agrees.
+          means.sound M N v outer move
+          (all_from (λ c. not (cube_holds c N)) cubes (λ c h. all_at (λ d. not (cube_holds d N)) others c out (there c h))) agrees;
+      models = means.models;
+      outside = λ v N agrees sat.
+          all_from (λ c. not (cube_holds c N)) others
+          (λ c h. all_at (λ d. not (cube_holds d N)) cubes c (means.outside v N agrees sat) (back c h));
+      named = λ k m low.
+          let a : ℕ = get_or (base g i) k 0 in
+          let has : List Lit → Bool = λ c. list_any (λ l. l.atom == a) c in
+          elim (either (stands_at g i a) (list_any has cubes) (means.named k m low)) [
+            | inl one ↦ or_left (stands_at g i a) (list_any has others) one
+            | inr two ↦
+                let found = any_at has cubes two in
+                or_right (stands_at g i a) (list_any has others) (any_from has others found.0 (there found.0 found.1) found.2)
+          ];
+      range = means.range;
+    }
+
+-- a cube more at the end of the kept ones, before the blocked ones
+pub means-keep : (g : Game) (i : ℕ) (rules : List GroundRule) (kept blocked : List (List Lit)) (old new : List (List ℕ)) (cube : List Lit)
+    → Means g i rules (kept ++ blocked) old → ((l : Lit) → IsIn l cube → holds (base g i) l.atom ≡ true)
+    → AddsClause old new (codes (base g i) (map opposite cube)) → Means g i rules ((kept ++ cube ∷ []) ++ blocked) new
+means-keep g i rules kept blocked old new cube means atoms adds =
+    let one : List (List Lit) = cube ∷ [] in
+    means-members g i rules ((kept ++ blocked) ++ one) ((kept ++ one) ++ blocked) new
+    (λ c h.
+    elim (append_at (kept ++ blocked) one c h) [
+      | inl both_lists ↦ elim (append_at kept blocked c both_lists) [
+        | inl k ↦ append_left (kept ++ one) blocked c (append_left kept one c k)
+        | inr b ↦ append_right (kept ++ one) blocked c b
+      ]
+      | inr last ↦ append_left (kept ++ one) blocked c (append_right kept one c last)
+    ])
+    (λ c h.
+    elim (append_at (kept ++ one) blocked c h) [
+      | inl front ↦ elim (append_at kept one c front) [
+        | inl k ↦ append_left (kept ++ blocked) one c (append_left kept blocked c k)
+        | inr last ↦ append_right (kept ++ blocked) one c last
+      ]
+      | inr b ↦ append_left (kept ++ blocked) one c (append_right kept blocked c b)
+    ])
+    (means-block g i rules (kept ++ blocked) old new cube means atoms adds)

@@ -16,7 +16,7 @@ use Rattle.asp_defs.proofs.Subsets.{holds_at, holds_from, subset-member, filter-
 use Rattle.asp_search.specs.Meaning.{truth, SatisfiesAll, AllTrue, Mentions}
 use Rattle.asp_search.specs.Cores.{IsCore as IsSearchCore}
 use Rattle.asp_minimal.specs.Choices.{with_choices}
-use Rattle.asp_game.specs.State.{MovesState}
+use Rattle.asp_game.specs.State.{MovesState, left_out}
 use Rattle.asp_game.specs.Questions.{is_outside, is_open, open_moves}
 use Rattle.asp_game.specs.Answers.{IsCore}
 use Rattle.asp_completion.specs.Codes.{rank, code, codes, literal, Agrees}
@@ -69,7 +69,7 @@ module _ (s : MovesState) (clauses : List (List ℕ)) (core : List ℕ)
     (bases : AreBases (base s.game s.level) (base s.game (s.level - 1)))
     (outer : IsIn s.outer (subsets (base s.game (s.level - 1))))
     (own : (l : Lit) → IsIn l s.region → holds (base s.game s.level) l.atom ≡ true)
-    (means : Means s.game s.level (rules_of s.game s.level) s.blocked clauses)
+    (means : Means s.game s.level (rules_of s.game s.level) (left_out s) clauses)
     (is_core : IsSearchCore clauses (codes (base s.game s.level) (assumed_literals (base s.game (s.level - 1)) s.outer s.region)) core) where
   abbrev B : List ℕ
   B = base s.game s.level
@@ -107,14 +107,14 @@ module _ (s : MovesState) (clauses : List (List ℕ)) (core : List ℕ)
   refutes M member =
       let held = filter_at (cube_holds part) (subsets L) M member in
       no_members (open_moves s M) (λ N i.
-      let found = filter_at (is_open s.region s.blocked) (moves s.game s.level M) N i in
-      let parts = both (cube_holds s.region N) (is_outside s.blocked N) found.1 in
+      let found = filter_at (is_open s.region (left_out s)) (moves s.game s.level M) N i in
+      let parts = both (cube_holds s.region N) (is_outside (left_out s) N) found.1 in
       let move : IsMove s.game s.level M N = move_at s.game s.level M N held.0 found.0 in
       is_core.refuted (values_in B N)
       (means.sound M N (values_in B N) held.0 found.0 parts.1 (values-agree B N))
       (core-true M N held.1 move.agrees parts.0))
 
-  part-named : (l : Lit) → IsIn l part → is_named_at s.game s.level s.blocked l.atom ≡ true
+  part-named : (l : Lit) → IsIn l part → is_named_at s.game s.level (left_out s) l.atom ≡ true
   part-named l i =
       let here = filter_at (λ m. names core (rank B m.atom)) (literals_in L s.outer) l i in
       let low : IsIn l.atom L = (outer_literal-at L s.outer l here.0).0 in
@@ -124,7 +124,7 @@ module _ (s : MovesState) (clauses : List (List ℕ)) (core : List ℕ)
       subst (λ (k : ℕ). Mentions clauses k) (eqb-true (found.0 / 2) (rank B l.atom) found.2)
       (is_core.mentioned found.0 (contains_from_in core found.0 found.1)) in
       let at : get_or B (rank B l.atom) 0 ≡ l.atom = get_or-rank B l.atom (holds_at B l.atom (bases.nested l.atom in_lower)) in
-      ap (is_named_at s.game s.level s.blocked) (sym at)
+      ap (is_named_at s.game s.level (left_out s)) (sym at)
       ∙ means.named (rank B l.atom) mention (ap (holds L) at ∙ in_lower)
 
   pub core-answer : IsCore s part
@@ -138,7 +138,7 @@ module _ (s : MovesState) (clauses : List (List ℕ)) (core : List ℕ)
         part = all_from (lit_true s.outer) part (λ l i.
             let here = filter_at (λ m. names core (rank B m.atom)) (literals_in L s.outer) l i in
             ap (lit_true s.outer) ((outer_literal-at L s.outer l here.0).1) ∙ outer_literal-true s.outer l.atom);
-        named = all_from (λ l. is_named_at s.game s.level s.blocked l.atom) part part-named;
+        named = all_from (λ l. is_named_at s.game s.level (left_out s) l.atom) part part-named;
         refuted = refutes;
       }
 
@@ -147,7 +147,7 @@ module _ (s : MovesState) (clauses : List (List ℕ)) (v : ℕ → Bool) (N : Li
     (bases : AreBases (base s.game s.level) (base s.game (s.level - 1)))
     (outer : IsIn s.outer (subsets (base s.game (s.level - 1))))
     (own : (l : Lit) → IsIn l s.region → holds (base s.game s.level) l.atom ≡ true)
-    (means : Means s.game s.level (rules_of s.game s.level) s.blocked clauses)
+    (means : Means s.game s.level (rules_of s.game s.level) (left_out s) clauses)
     (agrees : Agrees (base s.game s.level) v N) (inside : IsIn N (subsets (base s.game s.level)))
     (satisfied : SatisfiesAll v clauses)
     (assumed : AllTrue v (codes (base s.game s.level) (assumed_literals (base s.game (s.level - 1)) s.outer s.region))) where
@@ -177,9 +177,9 @@ module _ (s : MovesState) (clauses : List (List ℕ)) (v : ℕ → Bool) (N : Li
   pub found-answer : is_answer_set (with_choices (rules_of s.game s.level) Lower) N ≡ true → meets_all N (bounds_of s.game s.level) ≡ true
       → IsIn N (open_moves s s.outer)
   found-answer chosen met =
-      filter_from (is_open s.region s.blocked) (moves s.game s.level s.outer) N
+      filter_from (is_open s.region (left_out s)) (moves s.game s.level s.outer) N
       (move_from s.game s.level s.outer N outer inside agrees_outer chosen met)
-      (and_true (cube_holds s.region N) (is_outside s.blocked N)
+      (and_true (cube_holds s.region N) (is_outside (left_out s) N)
       (all_from (lit_true N) s.region (λ l i.
       assumed-true l (append_right (literals_in Lower s.outer) s.region l i) (own l i)))
       (means.outside v N agrees satisfied))

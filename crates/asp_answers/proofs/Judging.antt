@@ -1,16 +1,17 @@
 -- What a candidate gives: a move, or literals that every move meets and the candidate doesn't.
-use Rattle.std.proofs.Common.{◌≡◌, ℕ, ◌-◌, true, not, ◌||◌, List, inl, inr}
+use Rattle.std.proofs.Common.{◌≡◌, ℕ, ◌-◌, ◌<◌, true, false, not, ◌||◌, List, [], ◌∷◌, length, get_or, inl, inr, arith}
 use Rattle.std.specs.Prelude.{◌==◌}
 use Rattle.std.specs.List.{list_all, list_any}
 use Rattle.asp_defs.specs.declared.ground.Game.{Game}
 use Rattle.asp_defs.specs.declared.ground.GroundRule.{GroundRule}
 use Rattle.asp_defs.specs.declared.ground.Lit.{Lit}
-use Rattle.asp_defs.specs.Lists.{IsIn}
+use Rattle.asp_defs.specs.Lists.{IsIn, is_empty}
 use Rattle.asp_defs.specs.Interpretations.{holds, subsets}
 use Rattle.asp_defs.specs.Entries.{stands_at, stands_in_rules, stands_in_bounds}
 use Rattle.asp_defs.specs.Games.{base, rules_of, bounds_of, rule_atoms, within, ascends}
 use Rattle.asp_defs.proofs.Lists.{either, or_left, or_right, not_true, all_at, any_at}
-use Rattle.asp_defs.proofs.Subsets.{true_is_not_false, holds_at, subset-holds}
+use Rattle.asp_defs.proofs.Subsets.{true_is_not_false, holds_at, holds_from, subset-holds}
+use Rattle.asp_reduct.proofs.Truths.{get_or-member}
 use Rattle.asp_defs.specs.Bounds.{bound_atoms}
 use Rattle.asp_minimal.specs.Choices.{Refutes}
 use Rattle.asp_minimal.specs.Nogoods.{IsNogood, stands_in}
@@ -18,6 +19,14 @@ use Rattle.asp_completion.specs.Meanings.{IsSoundClause}
 use Rattle.asp_bounds.specs.Denials.{IsBoundsClause}
 use Rattle.asp_bounds.proofs.Denying.{bounds-clause-true, bounds-clause-atoms}
 use Rattle.asp_completion.proofs.Moves.{move_at, subset-ascends}
+
+-- the first of some atoms
+pub some-first : (atoms : List ℕ) → is_empty atoms ≡ false → 0 < length atoms
+some-first [] h = absurd (cc)
+some-first (a ∷ atoms) h = omega arith
+
+pub first-holds : (atoms : List ℕ) (d : ℕ) → is_empty atoms ≡ false → holds atoms (get_or atoms 0 d) ≡ true
+first-holds atoms d h = holds_from atoms (get_or atoms 0 d) (get_or-member atoms 0 d (some-first atoms h))
 
 -- a nogood of a candidate is sound
 pub nogood-sound : (g : Game) (i : ℕ) (blocked : List (List Lit)) (N U : List ℕ) (clause : List Lit)

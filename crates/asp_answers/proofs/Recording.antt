@@ -1,6 +1,6 @@
 -- Recorded nogoods, while clauses are added and the search goes on.
 use Rattle.std.proofs.Common.{◌≡◌, ℕ, ◌+◌, ◌<◌, ◌≤◌, Bool, true, List, [], ◌∷◌, ◌++◌, length, get_or, refl, sym, ap, ◌∙◌, subst, inl, inr, arith}
-use Rattle.std.specs.Prelude.{Option, None, Some, Result, Ok, Err, OnOk, OnErr}
+use Rattle.std.specs.Prelude.{None, Result, Ok, Err, OnOk, OnErr}
 use Rattle.std.proofs.lemmas.Bool.{cases_lt}
 use Rattle.std.proofs.lemmas.List.{length-append, get_or_append_left}
 use Rattle.std.proofs.Math.Seq.{get_or-append_seam}
@@ -19,7 +19,7 @@ use Rattle.asp_completion.specs.Meanings.{IsSoundClause, AddsTo, AddsLooselyTo}
 use Rattle.asp_completion.proofs.Places.{satisfies_to}
 use Rattle.asp_completion.proofs.Loops.{item-in}
 use Rattle.asp_answers.specs.declared.work.Work.{Work}
-use Rattle.asp_answers.specs.Recorded.{AreDifferent, Grows, AreImplied, HasRecorded, IsRecorded, Learned, Learns, nogoods_in, AreRecorded, LearnsIn}
+use Rattle.asp_answers.specs.Recorded.{AreDifferent, Grows, AreImplied, HasRecorded, IsRecorded, Learned}
 use Rattle.asp_answers.proofs.Measure.{none_met}
 
 -- ---- lists that grow
@@ -169,7 +169,7 @@ learned-pushed l (Err x) old new nogoods more clause v N agrees sat none sound a
     subst (λ (ns : List (List Lit)). Learned l old new nogoods ns) (sym refused)
     (learned-added l old new (codes (upper l) clause) nogoods adds)
 
--- ---- the work on a question, if there is one
+-- ---- the first question
 
 pub learned-none : (l : Level) (w : Work) → w.nogoods ≡ [] → IsRecorded l w
 learned-none l w none =
@@ -179,23 +179,3 @@ learned-none l w none =
       firm = λ clause m. absurd m;
       now = λ clause m. absurd m;
     })
-
-recorded-some : (l : Level) (w : Work) → IsRecorded l w → AreRecorded l (Some w)
-recorded-some l w recorded v e =
-    let same : w ≡ v = cc in subst (λ (x : Work). IsRecorded l x) same recorded
-
-pub learned-in-self : (l : Level) (work : Option Work) → LearnsIn l work work
-learned-in-self l work = record { recorded = λ h. h; grows = grows-self (nogoods_in work) }
-
-pub learned-in : (l : Level) (work : Option Work) (old new : Work) → work ≡ Some old → Learns l old new → LearnsIn l work (Some new)
-learned-in l work old new e learns = record {
-  recorded = λ h. recorded-some l new (learns.recorded (h old e));
-  grows = subst (λ (o : Option Work). Grows (nogoods_in o) new.nogoods) (sym e) learns.grows;
-}
-
-pub learned-first : (l : Level) (work : Option Work) (first : Work) → work ≡ None → IsRecorded l first → LearnsIn l work (Some first)
-learned-first l work first e recorded = record {
-  recorded = λ h. recorded-some l first recorded;
-  grows = subst (λ (o : Option Work). Grows (nogoods_in o) first.nogoods) (sym e)
-      (record { longer = omega arith; same = λ k h. absurd (omega arith) });
-}

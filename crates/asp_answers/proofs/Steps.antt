@@ -1,13 +1,15 @@
 -- The work on a question from step to step.
-use Rattle.std.proofs.Common.{◌≡◌, ℕ, ◌+◌, ◌*◌, ◌^◌, ◌<◌, ◌≤◌, Bool, true, false, List, [], ◌∷◌, ◌++◌, map, length, get_or, replicate, refl, sym, ap, ◌∙◌, subst, arith}
-use Rattle.std.specs.Prelude.{Result, Ok, Err, OnOk, OnErr, Option, None, Some, IfSome}
+use Rattle.std.proofs.Common.{◌≡◌, ℕ, ◌+◌, ◌*◌, ◌^◌, ◌<◌, ◌≤◌, Bool, true, false, List, [], ◌∷◌, ◌++◌, map, length, get_or, replicate, refl, sym, ap, ◌∙◌, subst, arith, append_assoc}
+use Rattle.std.specs.Prelude.{Result, Ok, Err, OnOk, OnErr, Option, None, Some, IfSome, if◌then◌else◌, is_ok, IsOk}
 use Rattle.std.specs.List.{filter}
 use Rattle.std.proofs.lemmas.List.{length-replicate}
 use Rattle.std.proofs.Math.Nat.{pow-le-pow_right}
+use Rattle.std.proofs.lemmas.List.{append-nil}
 use Rattle.asp_bits.specs.Places.{true_places}
 use Rattle.asp_defs.specs.declared.faults.Give.{Give}
 use Rattle.asp_defs.specs.declared.faults.Give.TheVariants as gives
 use Rattle.asp_defs.specs.declared.faults.Kind.{Kind}
+use Rattle.asp_defs.specs.declared.faults.Kind.TheVariants as kinds
 use Rattle.asp_defs.specs.declared.faults.Kind.TheVariants.{Search, Minimal}
 use Rattle.asp_defs.specs.declared.faults.Unknown.{Unknown}
 use Rattle.asp_defs.specs.declared.ground.Game.{Game}
@@ -47,8 +49,8 @@ use Rattle.asp_completion.specs.Codes.{codes, opposite, Agrees}
 use Rattle.asp_answers.specs.Assumptions.{outer_part, assumed_literals}
 use Rattle.asp_completion.specs.Levels.{game_at, upper, lower, rules_at, bounds_at, IsLevel}
 use Rattle.asp_completion.specs.Meanings.{Means, IsSoundClause, IsFilled, AddsTo, AddsLooselyTo}
-use Rattle.asp_answers.specs.Works.{Serves, IsPrepared, Asked, IsAsked, Stays, KeepsQuestion, IsCandidate, IsTotal, Spends, HasSpent, IsSettled, unknown_of, last_with, question_of, answered_by, fault_of}
-use Rattle.asp_answers.proofs.Blocking.{opposite-atom, sound-beside, means-block}
+use Rattle.asp_answers.specs.Works.{Serves, IsPrepared, Asked, IsAsked, Stays, KeepsQuestion, IsCandidate, IsTotal, Spends, HasSpent, IsSettled, unknown_of, last_with, question_of, answered_by, fault_of, Settled, IsCause}
+use Rattle.asp_answers.proofs.Blocking.{opposite-atom, sound-beside, means-block, means-keep}
 use Rattle.asp_completion.proofs.Learning.{means-same, means-add}
 use Rattle.asp_completion.proofs.Bases.{AreBases, outer-subset}
 use Rattle.asp_answers.proofs.Cores.{core-answer, found-answer}
@@ -138,12 +140,13 @@ module _ (l : Level) (ready : IsLevel l) where
     -- ---- what stays asked
 
     -- with another search that stands for the same question
-    pub asked-moved : (new : SearchState) (cubes : List (List Lit)) (set : List Bool) → new.atoms ≡ length (upper l)
+    pub asked-moved : (new : SearchState) (kept cubes : List (List Lit)) (set : List Bool) → new.atoms ≡ length (upper l)
         → new.budget ≡ budget → (new.stage ≡ New → ⊥) → IfSome new.ordered (λ was. was ≡ w.ordered) → new.assumed ≡ w.search.assumed
-        → Means (game_at l) l.number (rules_at l) cubes new.clauses → Means (game_at l) l.number (rules_at l) [] new.firm → length set ≡ length (game_at l).bases.atoms
+        → Means (game_at l) l.number (rules_at l) (kept ++ cubes) new.clauses → Means (game_at l) l.number (rules_at l) kept new.firm
+        → length set ≡ length (game_at l).bases.atoms
         → ((a : ℕ) → get_or set a false ≡ true → holds (upper l) a ≡ true)
-        → Asked l budget new w.outer w.region w.ordered cubes set
-    asked-moved new cubes set atoms budget_is begun order assumed means firm places inside = record {
+        → Asked l budget new w.outer w.region w.ordered kept cubes set
+    asked-moved new kept cubes set atoms budget_is begun order assumed means firm places inside = record {
       atoms = atoms;
       budget_is = budget_is;
       begun = begun;
@@ -160,134 +163,187 @@ module _ (l : Level) (ready : IsLevel l) where
 
     -- with sound literals as a further clause
     pub asked-added : (new : SearchState) (clause : List Lit) → IsSoundClause (game_at l) l.number [] clause
-        → AddsTo w.search new (codes (upper l) clause) → Asked l budget new w.outer w.region w.ordered w.blocked w.set
+        → AddsTo w.search new (codes (upper l) clause) → Asked l budget new w.outer w.region w.ordered w.kept.items w.blocked w.set
     asked-added new clause sound adds =
-        asked-moved new w.blocked w.set (adds.atoms ∙ asked.atoms) (adds.budget ∙ asked.budget_is) (adds.begun asked.begun)
+        asked-moved new w.kept.items w.blocked w.set (adds.atoms ∙ asked.atoms) (adds.budget ∙ asked.budget_is) (adds.begun asked.begun)
         (order_kept w.ordered w.search.ordered new.ordered adds.ordered asked.same_order) adds.assumed
-        (means-add (game_at l) l.number (rules_at l) w.blocked w.search.clauses new.clauses clause asked.means (sound-beside (game_at l) l.number w.blocked clause sound) adds.clauses)
-        (means-add (game_at l) l.number (rules_at l) [] w.search.firm new.firm clause asked.firm sound adds.firm)
+        (means-add (game_at l) l.number (rules_at l) (w.kept.items ++ w.blocked) w.search.clauses new.clauses clause asked.means
+        (sound-beside (game_at l) l.number (w.kept.items ++ w.blocked) clause sound) adds.clauses)
+        (means-add (game_at l) l.number (rules_at l) w.kept.items w.search.firm new.firm clause asked.firm
+        (sound-beside (game_at l) l.number w.kept.items clause sound) adds.firm)
         asked.set_places asked.set_inside
 
     -- while the search goes on
     pub asked-on : (new : SearchState) (set : List Bool) → SearchGoesOn w.search new → (new.stage ≡ New → ⊥)
         → new.ordered ≡ Some w.ordered → length set ≡ length (game_at l).bases.atoms → ((a : ℕ) → get_or set a false ≡ true → holds (upper l) a ≡ true)
-        → Asked l budget new w.outer w.region w.ordered w.blocked set
+        → Asked l budget new w.outer w.region w.ordered w.kept.items w.blocked set
     asked-on new set goes begun order places inside =
-        asked-moved new w.blocked set (goes.atoms ∙ asked.atoms) (goes.budget ∙ asked.budget_is) begun
+        asked-moved new w.kept.items w.blocked set (goes.atoms ∙ asked.atoms) (goes.budget ∙ asked.budget_is) begun
         (order_asked order) goes.assumed
-        (means-same (game_at l) l.number (rules_at l) w.blocked w.search.clauses new.clauses asked.means goes.clauses)
-        (means-same (game_at l) l.number (rules_at l) [] w.search.firm new.firm asked.firm goes.firm) places inside
+        (means-same (game_at l) l.number (rules_at l) (w.kept.items ++ w.blocked) w.search.clauses new.clauses asked.means goes.clauses)
+        (means-same (game_at l) l.number (rules_at l) w.kept.items w.search.firm new.firm asked.firm goes.firm) places inside
 
     -- with a further cube that is blocked
     pub asked-blocked : (new : SearchState) (cubes : List (List Lit)) (cube : List Lit)
         → ((m : Lit) → IsIn m cube → holds (upper l) m.atom ≡ true) → AddsLooselyTo w.search new (codes (upper l) (map opposite cube))
-        → cubes ≡ w.blocked ++ cube ∷ [] → Asked l budget new w.outer w.region w.ordered cubes w.set
+        → cubes ≡ w.blocked ++ cube ∷ [] → Asked l budget new w.outer w.region w.ordered w.kept.items cubes w.set
     asked-blocked new cubes cube inside adds more =
-        asked-moved new cubes w.set (adds.atoms ∙ asked.atoms) (adds.budget ∙ asked.budget_is) (adds.begun asked.begun)
+        asked-moved new w.kept.items cubes w.set (adds.atoms ∙ asked.atoms) (adds.budget ∙ asked.budget_is) (adds.begun asked.begun)
         (order_kept w.ordered w.search.ordered new.ordered adds.ordered asked.same_order) adds.assumed
-        (subst (λ (cs : List (List Lit)). Means (game_at l) l.number (rules_at l) cs new.clauses) (sym more)
-        (means-block (game_at l) l.number (rules_at l) w.blocked w.search.clauses new.clauses cube asked.means inside adds.clauses))
-        (subst (λ (cs : List (List ℕ)). Means (game_at l) l.number (rules_at l) [] cs) (sym adds.firm) asked.firm)
+        (subst (λ (cs : List (List Lit)). Means (game_at l) l.number (rules_at l) cs new.clauses)
+        (append_assoc w.kept.items w.blocked (cube ∷ []) ∙ ap (λ (cs : List (List Lit)). w.kept.items ++ cs) (sym more))
+        (means-block (game_at l) l.number (rules_at l) (w.kept.items ++ w.blocked) w.search.clauses new.clauses cube asked.means inside
+        adds.clauses))
+        (subst (λ (cs : List (List ℕ)). Means (game_at l) l.number (rules_at l) w.kept.items cs) (sym adds.firm) asked.firm)
         asked.set_places asked.set_inside
 
-pub serves-asked : (l : Level) (budget : ℕ) (w : Work) → IsAsked l budget w → Serves l budget w.search
+    -- with a further cube that is kept
+    pub asked-kept : (new : SearchState) (cubes : List (List Lit)) (cube : List Lit)
+        → ((m : Lit) → IsIn m cube → holds (upper l) m.atom ≡ true) → AddsTo w.search new (codes (upper l) (map opposite cube))
+        → cubes ≡ w.kept.items ++ cube ∷ [] → Asked l budget new w.outer w.region w.ordered cubes w.blocked w.set
+    asked-kept new cubes cube inside adds more =
+        subst (λ (cs : List (List Lit)). Asked l budget new w.outer w.region w.ordered cs w.blocked w.set) (sym more)
+        (asked-moved new (w.kept.items ++ cube ∷ []) w.blocked w.set (adds.atoms ∙ asked.atoms) (adds.budget ∙ asked.budget_is)
+        (adds.begun asked.begun) (order_kept w.ordered w.search.ordered new.ordered adds.ordered asked.same_order) adds.assumed
+        (means-keep (game_at l) l.number (rules_at l) w.kept.items w.blocked w.search.clauses new.clauses cube asked.means inside adds.clauses)
+        (means-block (game_at l) l.number (rules_at l) w.kept.items w.search.firm new.firm cube asked.firm inside adds.firm)
+        asked.set_places asked.set_inside)
+
+-- a cause of a spent budget stays one while no literal is placed
+spends-moved : (l : Level) (budget : ℕ) (old new check : SearchState) (unknown : Unknown) → new.count ≡ old.count → new.trail ≡ old.trail
+    → Spends l budget old check unknown → Spends l budget new check unknown
+spends-moved l budget old new check unknown count trail spends = record {
+  is = spends.is;
+  few = spends.few;
+  cause = go unknown.kind spends.cause;
+}
+  where
+    go : (k : Kind) → IsCause k l budget old check → IsCause k l budget new check
+    go kinds.Search cause = count ∙ cause
+    go kinds.Minimal cause = (subst (λ (xs : List ℕ). IsTotal (length (upper l)) xs) (sym trail) cause.0, cause.1)
+    go kinds.Store cause = cause
+
+pub serves-asked : (l : Level) (budget : ℕ) (w : Work) → IsAsked l budget w → Serves l budget w.kept.items w.search
 serves-asked l budget w asked = record { atoms = asked.atoms; budget_is = asked.budget_is; firm = asked.firm }
 
-pub serves-same : (l : Level) (budget : ℕ) (old new : SearchState) → new ≡ old → Serves l budget old → Serves l budget new
-serves-same l budget old new e serves = subst (λ (s : SearchState). Serves l budget s) (sym e) serves
+pub serves-same : (l : Level) (budget : ℕ) (kept : List (List Lit)) (old new : SearchState) → new ≡ old → Serves l budget kept old
+    → Serves l budget kept new
+serves-same l budget kept old new e serves = subst (λ (s : SearchState). Serves l budget kept s) (sym e) serves
 
-pub serves-loosely : (l : Level) (budget : ℕ) (old new : SearchState) (clause : List ℕ) → AddsLooselyTo old new clause → Serves l budget old
-    → Serves l budget new
-serves-loosely l budget old new clause adds serves = record {
+pub serves-loosely : (l : Level) (budget : ℕ) (kept : List (List Lit)) (old new : SearchState) (clause : List ℕ)
+    → AddsLooselyTo old new clause → Serves l budget kept old → Serves l budget kept new
+serves-loosely l budget kept old new clause adds serves = record {
   atoms = adds.atoms ∙ serves.atoms;
   budget_is = adds.budget ∙ serves.budget_is;
-  firm = subst (λ (cs : List (List ℕ)). Means (game_at l) l.number (rules_at l) [] cs) (sym adds.firm) serves.firm;
+  firm = subst (λ (cs : List (List ℕ)). Means (game_at l) l.number (rules_at l) kept cs) (sym adds.firm) serves.firm;
 }
+
+-- a kept cube more
+pub serves-kept : (l : Level) (budget : ℕ) (kept : List (List Lit)) (old new : SearchState) (cube : List Lit)
+    → ((m : Lit) → IsIn m cube → holds (upper l) m.atom ≡ true) → AddsTo old new (codes (upper l) (map opposite cube))
+    → Serves l budget kept old → Serves l budget (kept ++ cube ∷ []) new
+serves-kept l budget kept old new cube inside adds serves = record {
+  atoms = adds.atoms ∙ serves.atoms;
+  budget_is = adds.budget ∙ serves.budget_is;
+  firm = means-block (game_at l) l.number (rules_at l) kept old.firm new.firm cube serves.firm inside adds.firm;
+}
+
+-- what was settled stays so, with a kept cube more
+pub settled-kept : (l : Level) (ready : IsLevel l) (budget : ℕ) (w : Work) (new : SearchState) (cubes : List (List Lit)) (cube : List Lit)
+    → ((m : Lit) → IsIn m cube → holds (upper l) m.atom ≡ true) → AddsTo w.search new (codes (upper l) (map opposite cube))
+    → cubes ≡ w.kept.items ++ cube ∷ [] → IsSettled l budget w
+    → Settled l budget new w.check w.outer w.region w.ordered cubes w.blocked w.set w.last
+settled-kept l ready budget w new cubes cube inside adds more settled = record {
+  serves = subst (λ (cs : List (List Lit)). Serves l budget cs new) (sym more)
+      (serves-kept l budget w.kept.items w.search new cube inside adds settled.serves);
+  asked = λ put given. asked-kept l ready budget w (settled.asked put given) new cubes cube inside adds more;
+  spent = λ k e. spends-moved l budget w.search new w.check (unknown_of l budget k) adds.count adds.trail (settled.spent k e);
+}
+
+-- nothing changed
+pub settled-same : (l : Level) (budget : ℕ) (w : Work) (new : SearchState) (cubes : List (List Lit)) → new ≡ w.search → cubes ≡ w.kept.items
+    → IsSettled l budget w → Settled l budget new w.check w.outer w.region w.ordered cubes w.blocked w.set w.last
+settled-same l budget w new cubes same more settled =
+    subst (λ (s : SearchState). Settled l budget s w.check w.outer w.region w.ordered cubes w.blocked w.set w.last) (sym same)
+    (subst (λ (cs : List (List Lit)). Settled l budget w.search w.check w.outer w.region w.ordered cs w.blocked w.set w.last) (sym more) settled)
 
 -- an answer to a question doesn't depend on what was answered and spent before
 pub found-alike : (s t : MovesState) (set : List Bool) → s.game ≡ t.game → s.level ≡ t.level → s.outer ≡ t.outer
-    → s.region ≡ t.region → s.blocked ≡ t.blocked → IsFound s set → IsFound t set
-found-alike s t set game level outer region blocked found =
-    let parts : Game → ℕ → List ℕ → List Lit → List (List Lit) → MovesState = λ g i o r c. record t {
+    → s.region ≡ t.region → s.kept ≡ t.kept → s.blocked ≡ t.blocked → IsFound s set → IsFound t set
+found-alike s t set game level outer region kept blocked found =
+    let parts : Game → ℕ → List ℕ → List Lit → List (List Lit) → List (List Lit) → MovesState = λ g i o r k c. record t {
       game = g;
       level = i;
       outer = o;
       region = r;
+      kept = k;
       blocked = c;
     } in
-    let at : IsFound (parts s.game s.level s.outer s.region s.blocked) set =
+    let at : IsFound (parts s.game s.level s.outer s.region s.kept s.blocked) set =
     record { places = found.places; open_move = found.open_move } in
-    subst (λ (g : Game). IsFound (parts g t.level t.outer t.region t.blocked) set) game
-    (subst (λ (i : ℕ). IsFound (parts s.game i t.outer t.region t.blocked) set) level
-    (subst (λ (o : List ℕ). IsFound (parts s.game s.level o t.region t.blocked) set) outer
-    (subst (λ (r : List Lit). IsFound (parts s.game s.level s.outer r t.blocked) set) region
-    (subst (λ (c : List (List Lit)). IsFound (parts s.game s.level s.outer s.region c) set) blocked at))))
+    subst (λ (g : Game). IsFound (parts g t.level t.outer t.region t.kept t.blocked) set) game
+    (subst (λ (i : ℕ). IsFound (parts s.game i t.outer t.region t.kept t.blocked) set) level
+    (subst (λ (o : List ℕ). IsFound (parts s.game s.level o t.region t.kept t.blocked) set) outer
+    (subst (λ (r : List Lit). IsFound (parts s.game s.level s.outer r t.kept t.blocked) set) region
+    (subst (λ (k : List (List Lit)). IsFound (parts s.game s.level s.outer s.region k t.blocked) set) kept
+    (subst (λ (c : List (List Lit)). IsFound (parts s.game s.level s.outer s.region s.kept c) set) blocked at)))))
 
 pub core-alike : (s t : MovesState) (core : List Lit) → s.game ≡ t.game → s.level ≡ t.level → s.outer ≡ t.outer
-    → s.region ≡ t.region → s.blocked ≡ t.blocked → IsCore s core → IsCore t core
-core-alike s t core game level outer region blocked found =
-    let parts : Game → ℕ → List ℕ → List Lit → List (List Lit) → MovesState = λ g i o r c. record t {
+    → s.region ≡ t.region → s.kept ≡ t.kept → s.blocked ≡ t.blocked → IsCore s core → IsCore t core
+core-alike s t core game level outer region kept blocked found =
+    let parts : Game → ℕ → List ℕ → List Lit → List (List Lit) → List (List Lit) → MovesState = λ g i o r k c. record t {
       game = g;
       level = i;
       outer = o;
       region = r;
+      kept = k;
       blocked = c;
     } in
-    let at : IsCore (parts s.game s.level s.outer s.region s.blocked) core =
+    let at : IsCore (parts s.game s.level s.outer s.region s.kept s.blocked) core =
     record { atoms = found.atoms; part = found.part; named = found.named; refuted = found.refuted } in
-    subst (λ (g : Game). IsCore (parts g t.level t.outer t.region t.blocked) core) game
-    (subst (λ (i : ℕ). IsCore (parts s.game i t.outer t.region t.blocked) core) level
-    (subst (λ (o : List ℕ). IsCore (parts s.game s.level o t.region t.blocked) core) outer
-    (subst (λ (r : List Lit). IsCore (parts s.game s.level s.outer r t.blocked) core) region
-    (subst (λ (c : List (List Lit)). IsCore (parts s.game s.level s.outer s.region c) core) blocked at))))
+    subst (λ (g : Game). IsCore (parts g t.level t.outer t.region t.kept t.blocked) core) game
+    (subst (λ (i : ℕ). IsCore (parts s.game i t.outer t.region t.kept t.blocked) core) level
+    (subst (λ (o : List ℕ). IsCore (parts s.game s.level o t.region t.kept t.blocked) core) outer
+    (subst (λ (r : List Lit). IsCore (parts s.game s.level s.outer r t.kept t.blocked) core) region
+    (subst (λ (k : List (List Lit)). IsCore (parts s.game s.level s.outer s.region k t.blocked) core) kept
+    (subst (λ (c : List (List Lit)). IsCore (parts s.game s.level s.outer s.region s.kept c) core) blocked at)))))
 
 -- ---- a new question
 
-pub prepared : (l : Level) (budget size : ℕ) (move : List Bool) (cube : List Lit) (fresh filled search : SearchState)
-    (assumed : List ℕ) → IsFresh fresh size budget → size ≡ length (upper l)
-    → IsFilled (game_at l) l.number (rules_at l) fresh filled
-    → search ≡ record filled { count = 0; assumed = assumed; trail = []; ordered = None; stage = Begun; clauses = filled.firm }
-    → assumed ≡ codes (upper l) (assumed_literals (lower l) (true_places move) cube) → IsPrepared l budget search move cube
-prepared l budget size move cube fresh filled search assumed is_fresh size_is is_filled begun codes_are = record {
-  atoms = ap (λ (s : SearchState). s.atoms) begun ∙ (is_filled.atoms ∙ (is_fresh.atoms_are ∙ size_is));
-  budget_is = ap (λ (s : SearchState). s.budget) begun ∙ (is_filled.budget ∙ is_fresh.budget_is);
-  begun = λ h. let e : search.stage ≡ Begun = ap (λ (s : SearchState). s.stage) begun in cc;
-  unordered = ap (λ (s : SearchState). s.ordered) begun;
-  assumed = ap (λ (s : SearchState). s.assumed) begun ∙ codes_are;
-  means = subst (λ (cs : List (List ℕ)). Means (game_at l) l.number (rules_at l) [] cs)
-      (sym (ap (λ (s : SearchState). s.clauses) begun)) is_filled.firm;
-  firm = subst (λ (cs : List (List ℕ)). Means (game_at l) l.number (rules_at l) [] cs)
-      (sym (ap (λ (s : SearchState). s.firm) begun)) is_filled.firm;
-  count = ap (λ (s : SearchState). s.count) begun;
-  trail = ap (λ (s : SearchState). s.trail) begun;
+pub filled-serves : (l : Level) (budget size : ℕ) (fresh filled : SearchState) → IsFresh fresh size budget → size ≡ length (upper l)
+    → IsFilled (game_at l) l.number (rules_at l) fresh filled → Serves l budget [] filled
+filled-serves l budget size fresh filled is_fresh size_is is_filled = record {
+  atoms = is_filled.atoms ∙ (is_fresh.atoms_are ∙ size_is);
+  budget_is = is_filled.budget ∙ is_fresh.budget_is;
+  firm = is_filled.firm;
 }
 
-pub prepared-again : (l : Level) (budget : ℕ) (move : List Bool) (cube : List Lit) (old search : SearchState) (assumed : List ℕ)
-    → Serves l budget old
+pub prepared-again : (l : Level) (budget : ℕ) (kept : List (List Lit)) (move : List Bool) (cube : List Lit) (old search : SearchState) (assumed : List ℕ)
+    → Serves l budget kept old
     → search ≡ record old { count = 0; assumed = assumed; trail = []; ordered = None; stage = Begun; clauses = old.firm }
-    → assumed ≡ codes (upper l) (assumed_literals (lower l) (true_places move) cube) → IsPrepared l budget search move cube
-prepared-again l budget move cube old search assumed serves begun codes_are = record {
+    → assumed ≡ codes (upper l) (assumed_literals (lower l) (true_places move) cube) → IsPrepared l budget kept search move cube
+prepared-again l budget kept move cube old search assumed serves begun codes_are = record {
   atoms = ap (λ (s : SearchState). s.atoms) begun ∙ serves.atoms;
   budget_is = ap (λ (s : SearchState). s.budget) begun ∙ serves.budget_is;
   begun = λ h. let e : search.stage ≡ Begun = ap (λ (s : SearchState). s.stage) begun in cc;
   unordered = ap (λ (s : SearchState). s.ordered) begun;
   assumed = ap (λ (s : SearchState). s.assumed) begun ∙ codes_are;
-  means = subst (λ (cs : List (List ℕ)). Means (game_at l) l.number (rules_at l) [] cs)
+  means = subst (λ (cs : List (List ℕ)). Means (game_at l) l.number (rules_at l) kept cs)
       (sym (ap (λ (s : SearchState). s.clauses) begun)) serves.firm;
-  firm = subst (λ (cs : List (List ℕ)). Means (game_at l) l.number (rules_at l) [] cs)
+  firm = subst (λ (cs : List (List ℕ)). Means (game_at l) l.number (rules_at l) kept cs)
       (sym (ap (λ (s : SearchState). s.firm) begun)) serves.firm;
   count = ap (λ (s : SearchState). s.count) begun;
   trail = ap (λ (s : SearchState). s.trail) begun;
 }
 
-pub asked-new : (l : Level) (budget n : ℕ) (move new_move set : List Bool) (cube new_cube : List Lit) (order : Bool) (cubes : List (List Lit))
-    (search : SearchState) → IsPrepared l budget search move cube → length move ≡ length (game_at l).bases.atoms
+pub asked-new : (l : Level) (budget n : ℕ) (move new_move set : List Bool) (cube new_cube : List Lit) (order : Bool)
+    (kept cubes : List (List Lit)) (search : SearchState) → IsPrepared l budget kept search move cube → length move ≡ length (game_at l).bases.atoms
     → is_outer (game_at l) l.number (true_places move) ≡ true → is_region (game_at l) l.number cube ≡ true
     → new_move ≡ move → new_cube ≡ cube → cubes ≡ [] → set ≡ replicate n false → n ≡ length (game_at l).bases.atoms
-    → Asked l budget search new_move new_cube order cubes set
-asked-new l budget n move new_move set cube new_cube order cubes search ready places outer region same_move same_cube none blank n_is =
-    subst (λ (m : List Bool). Asked l budget search m new_cube order cubes set) (sym same_move)
-    (subst (λ (r : List Lit). Asked l budget search move r order cubes set) (sym same_cube)
+    → Asked l budget search new_move new_cube order kept cubes set
+asked-new l budget n move new_move set cube new_cube order kept cubes search ready places outer region same_move same_cube none blank n_is =
+    subst (λ (m : List Bool). Asked l budget search m new_cube order kept cubes set) (sym same_move)
+    (subst (λ (r : List Lit). Asked l budget search move r order kept cubes set) (sym same_cube)
     (record {
       atoms = ready.atoms;
       budget_is = ready.budget_is;
@@ -297,7 +353,8 @@ asked-new l budget n move new_move set cube new_cube order cubes search ready pl
       places = places;
       outer = outer;
       region = region;
-      means = subst (λ (cs : List (List Lit)). Means (game_at l) l.number (rules_at l) cs search.clauses) (sym none) ready.means;
+      means = subst (λ (cs : List (List Lit)). Means (game_at l) l.number (rules_at l) cs search.clauses)
+          (sym (ap (λ (cs : List (List Lit)). kept ++ cs) none ∙ append-nil kept)) ready.means;
       firm = ready.firm;
       set_places = ap (λ (s : List Bool). length s) blank ∙ (length-replicate n false ∙ n_is);
       set_inside = λ a h.
@@ -332,6 +389,13 @@ module _ (l : Level) (ready : IsLevel l) (set : List Bool) where
 pub either_way : {T E P Q X : Type 0} (r : Result T E) → (P → X) → (Q → X) → OnOk r P → OnErr r Q → X
 either_way (Ok x) f g p q = f p
 either_way (Err e) f g p q = g q
+
+-- where there is room, the kept cubes are more by one
+pub pushed-more : {T E : Type 0} (r : Result T E) (old mid new : List (List Lit)) (copy cube : List Lit) → mid ≡ old → copy ≡ cube
+    → new ≡ (if is_ok r then mid ++ copy ∷ [] else mid) → IsOk r → new ≡ old ++ cube ∷ []
+pushed-more (Ok x) old mid new copy cube same copied e ok =
+    e ∙ (ap (λ (cs : List (List Lit)). cs ++ copy ∷ []) same ∙ ap (λ (k : List Lit). old ++ k ∷ []) copied)
+pushed-more (Err x) old mid new copy cube same copied e ok = absurd (let never : false ≡ true = ok in cc)
 
 -- what holds, after a call that went well
 pub on_ok_of : {T E P : Type 0} (r : Result T E) → P → OnOk r P
@@ -390,34 +454,33 @@ assumed-codes-below l ready budget w asked =
 
 -- ---- the question from step to step
 
-pub stays-then : {A B C D : Type 0} (a0 a1 a2 : A) (b0 b1 b2 : B) (o0 o1 o2 : Bool) (c0 c1 c2 : C) (d0 d1 d2 : D)
-    → Stays a0 a1 b0 b1 o0 o1 c0 c1 d0 d1 → Stays a1 a2 b1 b2 o1 o2 c1 c2 d1 d2 → Stays a0 a2 b0 b2 o0 o2 c0 c2 d0 d2
-stays-then a0 a1 a2 b0 b1 b2 o0 o1 o2 c0 c1 c2 d0 d1 d2 one two = record {
+pub stays-then : {A B C D : Type 0} (a0 a1 a2 : A) (b0 b1 b2 : B) (o0 o1 o2 : Bool) (k0 k1 k2 c0 c1 c2 : C) (d0 d1 d2 : D)
+    → Stays a0 a1 b0 b1 o0 o1 k0 k1 c0 c1 d0 d1 → Stays a1 a2 b1 b2 o1 o2 k1 k2 c1 c2 d1 d2
+    → Stays a0 a2 b0 b2 o0 o2 k0 k2 c0 c2 d0 d2
+stays-then a0 a1 a2 b0 b1 b2 o0 o1 o2 k0 k1 k2 c0 c1 c2 d0 d1 d2 one two = record {
   same_outer = two.same_outer ∙ one.same_outer;
   same_region = two.same_region ∙ one.same_region;
   same_order = two.same_order ∙ one.same_order;
+  same_kept = two.same_kept ∙ one.same_kept;
   same_blocked = two.same_blocked ∙ one.same_blocked;
   same_last = two.same_last ∙ one.same_last;
 }
 
 pub keeps-then : (old mid new : Work) → KeepsQuestion old mid → KeepsQuestion mid new → KeepsQuestion old new
 keeps-then old mid new one two =
-    stays-then old.outer mid.outer new.outer old.region mid.region new.region old.ordered mid.ordered new.ordered old.blocked mid.blocked new.blocked
-    old.last mid.last new.last one two
+    stays-then old.outer mid.outer new.outer old.region mid.region new.region old.ordered mid.ordered new.ordered old.kept.items mid.kept.items
+    new.kept.items old.blocked mid.blocked new.blocked old.last mid.last new.last one two
 
 pub question-kept : (l : Level) (budget : ℕ) (old new : Work) → KeepsQuestion old new
     → question_of l budget new ≡ question_of l budget old
 question-kept l budget old new kept =
-    let with_parts : List Bool → List Lit → Bool → List (List Lit) → MovesState = λ o r d b. record (question_of l budget old) {
-      outer = true_places o;
-      region = r;
-      ordered = d;
-      blocked = b;
-    } in
-    ap (λ (o : List Bool). with_parts o new.region new.ordered new.blocked) kept.same_outer
-    ∙ (ap (λ (r : List Lit). with_parts old.outer r new.ordered new.blocked) kept.same_region
-    ∙ (ap (λ (d : Bool). with_parts old.outer old.region d new.blocked) kept.same_order
-    ∙ ap (λ (b : List (List Lit)). with_parts old.outer old.region old.ordered b) kept.same_blocked))
+    let with_parts : List Bool → List Lit → Bool → List (List Lit) → List (List Lit) → MovesState = λ o r d k b.
+    record (question_of l budget old) { outer = true_places o; region = r; ordered = d; kept = k; blocked = b } in
+    ap (λ (o : List Bool). with_parts o new.region new.ordered new.kept.items new.blocked) kept.same_outer
+    ∙ (ap (λ (r : List Lit). with_parts old.outer r new.ordered new.kept.items new.blocked) kept.same_region
+    ∙ (ap (λ (d : Bool). with_parts old.outer old.region d new.kept.items new.blocked) kept.same_order
+    ∙ (ap (λ (k : List (List Lit)). with_parts old.outer old.region old.ordered k new.blocked) kept.same_kept
+    ∙ ap (λ (b : List (List Lit)). with_parts old.outer old.region old.ordered old.kept.items b) kept.same_blocked)))
 
 -- ---- the last answer
 
@@ -446,6 +509,7 @@ spent-after l budget search check (Err gives.NoMemory) spent k e = absurd (cc)
 -- what the last fault says
 pub fault-last : (l : Level) (budget : ℕ) (set : List Bool) (a : Answered) (g : Give)
     → fault_of l.number budget a ≡ Some g → last_with l budget set a ≡ Gave g
+fault-last l budget set answered.Unasked g e = absurd (cc)
 fault-last l budget set answered.Nothing g e = absurd (cc)
 fault-last l budget set answered.Found g e = absurd (cc)
 fault-last l budget set answered.Core g e = absurd (cc)
@@ -457,6 +521,7 @@ pub fault-spent : (l : Level) (budget : ℕ) (w : Work) (u : Unknown) → IsSett
 fault-spent l budget w u settled e = go w.last refl e
   where
     go : (a : Answered) → w.last ≡ a → fault_of l.number budget a ≡ Some (gives.Spent u) → HasSpent l budget w u
+    go answered.Unasked at h = absurd (cc)
     go answered.Nothing at h = absurd (cc)
     go answered.Found at h = absurd (cc)
     go answered.Core at h = absurd (cc)
@@ -467,6 +532,7 @@ fault-spent l budget w u settled e = go w.last refl e
 
 pub no_fault : (l : Level) (budget : ℕ) (set : List Bool) (a : Answered) → fault_of l.number budget a ≡ None
     → (a ≡ answered.NoMemory → ⊥) × ((g : Give) → last_with l budget set a ≡ Gave g → ⊥)
+no_fault l budget set answered.Unasked e = (λ h. cc, λ g h. cc)
 no_fault l budget set answered.Nothing e = (λ h. cc, λ g h. cc)
 no_fault l budget set answered.Found e = (λ h. cc, λ g h. cc)
 no_fault l budget set answered.Core e = (λ h. cc, λ g h. cc)

@@ -1,5 +1,5 @@
 -- What contracts say of the nogoods that were recorded.
-use Rattle.std.specs.Prelude.{ℕ, ◌≡◌, ◌≢◌, ◌<◌, ◌≤◌, Bool, List, [], length, get_or, Option, None, Some}
+use Rattle.std.specs.Prelude.{ℕ, ◌≡◌, ◌≢◌, ◌<◌, ◌≤◌, Bool, List, [], length, get_or}
 use Rattle.asp_defs.specs.declared.ground.Game.{Game}
 use Rattle.asp_defs.specs.declared.ground.Lit.{Lit}
 use Rattle.asp_defs.specs.Lists.{IsIn}
@@ -44,15 +44,3 @@ pub record Learned (l : Level) (old new : SearchState) (nogoods more : List (Lis
 
 abbrev pub Learns : Level → Work → Work → Type 0
 Learns l old new = Learned l old.search new.search old.nogoods new.nogoods
-
--- the same of the work on a question, if there is one
-abbrev pub nogoods_in : Option Work → List (List Lit)
-nogoods_in None = []
-nogoods_in (Some w) = w.nogoods
-
-abbrev pub AreRecorded : Level → Option Work → Type 0
-AreRecorded l work = (w : Work) → work ≡ Some w → IsRecorded l w
-
-pub record LearnsIn (l : Level) (old new : Option Work) : Type 0 where
-  pub recorded : AreRecorded l old → AreRecorded l new
-  pub grows : Grows (nogoods_in old) (nogoods_in new)

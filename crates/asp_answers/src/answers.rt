@@ -5,16 +5,18 @@ ghost use Rattle.asp_defs.specs.declared.faults.Give.{Give};
 ghost use Rattle.asp_defs.specs.declared.faults.Unknown.{Unknown};
 ghost use Rattle.asp_defs.specs.declared.ground.Lit.{Lit};
 ghost use Rattle.asp_defs.specs.Games.{base_size, level_count, IsValid};
-ghost use Rattle.asp_game.specs.State.{Unasked, Gave, asked, with_blocked, without_memory};
+ghost use Rattle.asp_game.specs.State.{Unasked, Gave, asked, with_blocked, with_kept, without_memory, without_cube};
 ghost use Rattle.asp_game.specs.Questions.{is_outer, is_region};
-ghost use Rattle.asp_game.specs.Answers.{IsFound, IsCore, IsSpent, GoesOn, IsBlockable, last_after};
+ghost use Rattle.asp_game.specs.Answers.{IsFound, IsCore, IsSpent, GoesOn, IsBlockable, is_on_base, last_after};
 ghost use Rattle.asp_defs.specs.Lists.{IsIn};
 ghost use Rattle.asp_completion.specs.Meanings.{IsSoundClause};
 ghost use Rattle.asp_answers.specs.AnswersState.{unasked};
 ghost use Rattle.asp_answers.specs.Recorded.{AreDifferent, Grows};
 ghost use Rattle.asp_answers.specs.Causes.{IsTrailCause, counts_after};
 
-use crate::asking::{begin_of, block_of, next_of};
+use crate::asking::{block_work, keep_work};
+use crate::find::next_answer;
+use crate::question::{ask, start};
 use crate::work::{Counts, Work};
 use asp_bits::Bits;
 use asp_completion::Level;
@@ -29,9 +31,7 @@ use std::sync::Arc;
 pub struct Answers {
     level: Level,
     budget: u64,
-    work: Option<Work>,
-    // No nogood, for as long as there is no work.
-    none: List<List<Lit>>,
+    work: Work,
     searches: u64,
     checks: u64,
 }
@@ -58,11 +58,11 @@ impl Answers {
         ensures { IfOk result (λ answers. answers.moves ≡ unasked game.value level budget) }
     {
         let level = Level::new(alloc, game, level)?;
+        let work = start(alloc, &level, budget)?;
         Ok(Answers {
             level,
             budget,
-            work: None,
-            none: List::new(alloc),
+            work,
             searches: 0,
             checks: 0,
         })
@@ -76,10 +76,7 @@ impl Answers {
             → IsSoundClause self.now.moves.game self.now.moves.level [] clause }
         ensures different { AreDifferent result.now }
     {
-        match &self.work {
-            Some(work) => &work.nogoods,
-            None => &self.none,
-        }
+        &self.work.nogoods
     }
 }
 
@@ -134,7 +131,7 @@ impl Moves for Answers {
         // No nogood is forgotten.
         ensures grows { Grows self.old.nogoods self.new.nogoods }
     {
-        begin_of(
+        ask(
             alloc,
             &self.level,
             self.budget,
@@ -172,7 +169,7 @@ impl Moves for Answers {
         // No nogood is forgotten.
         ensures grows { Grows self.old.nogoods self.new.nogoods }
     {
-        let answer = next_of(alloc, &self.level, self.budget, &mut self.work);
+        let answer = next_answer(alloc, &self.level, self.budget, &mut self.work);
         let counts = counted(&answer, self.searches, self.checks);
         self.searches = counts.searches;
         self.checks = counts.checks;
@@ -190,6 +187,20 @@ impl Moves for Answers {
         // No nogood is forgotten.
         ensures grows { Grows self.old.nogoods self.new.nogoods }
     {
-        block_of(alloc, &self.level, self.budget, &mut self.work, cube)
+        block_work(alloc, &self.level, self.budget, &mut self.work, cube)
+    }
+
+    /// Leaves out the moves that have these literals, in this question and all later ones. `NoMemory`: memory was refused; `next`
+    /// says so until the next question, if there was one.
+    fn keep(&mut self, alloc: Global, cube: &[Lit]) -> Result<(), NoMemory>
+        requires { IsTrue (is_on_base self.old.moves cube.now) }
+        ensures kept { OnOk result (self.new.moves ≡ with_kept self.old.moves cube.now) }
+        ensures no_memory { OnErr result (self.new.moves ≡ without_cube self.old.moves) }
+        ensures placed { self.new.placed ≡ self.old.placed }
+
+        // No nogood is forgotten.
+        ensures grows { Grows self.old.nogoods self.new.nogoods }
+    {
+        keep_work(alloc, &self.level, self.budget, &mut self.work, cube)
     }
 }

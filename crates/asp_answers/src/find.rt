@@ -7,7 +7,7 @@ ghost use Rattle.asp_defs.specs.declared.faults.Give.{Give};
 ghost use Rattle.asp_defs.specs.declared.faults.Unknown.{Unknown};
 ghost use Rattle.asp_defs.specs.declared.ground.Lit.{Lit};
 ghost use Rattle.asp_defs.specs.Bounds.{meets_all};
-ghost use Rattle.asp_defs.specs.Lists.{IsIn};
+ghost use Rattle.asp_defs.specs.Lists.{IsIn, is_empty};
 ghost use Rattle.asp_defs.specs.Interpretations.{holds};
 ghost use Rattle.asp_search.specs.declared.stage.Stage.TheVariants.{New};
 ghost use Rattle.asp_search.specs.Seen.{AreCodes};
@@ -17,21 +17,22 @@ ghost use Rattle.asp_minimal.specs.Nogoods.{is_false};
 ghost use Rattle.asp_game.specs.State.{Gave};
 ghost use Rattle.asp_game.specs.Answers.{IsFound, IsCore, last_after};
 ghost use Rattle.asp_answers.specs.Candidates.{candidates_left};
-ghost use Rattle.asp_completion.specs.Codes.{rank, codes, opposite};
+ghost use Rattle.asp_completion.specs.Codes.{rank, codes};
 ghost use Rattle.asp_answers.specs.Assumptions.{names, outer_part as part_of};
 ghost use Rattle.asp_completion.specs.Levels.{game_at, upper, lower, rules_at, bounds_at, IsLevel};
 ghost use Rattle.asp_answers.specs.Recorded.{Learns};
-ghost use Rattle.asp_answers.specs.Works.{Serves, IsAsked, KeepsQuestion, IsRead, IsCandidate, HasSpent, HasRun, IsSettled, question_of, last_of, answered_by, fault_of};
+ghost use Rattle.asp_answers.specs.declared.work.Answered.TheVariants as answered;
+ghost use Rattle.asp_answers.specs.Works.{IsAsked, KeepsQuestion, IsRead, IsCandidate, HasSpent, HasRun, IsSettled, question_of, last_of, answered_by, fault_of};
 ghost use Rattle.asp_completion.specs.Meanings.{AddsTo, IsSoundClause};
 ghost use Rattle.asp_completion.specs.declared.level.Level.{Level};
 
 use crate::work::{Answered, Work};
 use asp_bits::Bits;
 use asp_bounds::unmet;
-use asp_completion::{Level, add_literals, add_loosely};
+use asp_completion::{Level, add_literals};
 use asp_defs::{Give, Kind, List, Lit, NoMemory, Unknown};
 use asp_game::Step;
-use asp_minimal::{Minimality, minimal, nogood};
+use asp_minimal::{Minimality, minimal, nogood_of_atom};
 use asp_search::{Outcome, Search, SearchFault};
 use std::alloc::Global;
 
@@ -151,7 +152,16 @@ fn exclude(alloc: Global, level: &Level, work: &mut Work, clause: &[Lit]) -> Res
     add_literals(alloc, level, clause, &mut work.search)
 }
 
-/// Adds a clause that every move satisfies and the candidate, which has this unfounded set, doesn't; and records it.
+/// The first of the atoms.
+fn first_of(atoms: &[u32]) -> u32
+    requires { is_empty atoms.now ≡ false }
+    ensures { holds atoms.now result ≡ true }
+{
+    atoms[0]
+}
+
+/// Adds a clause that every move satisfies and the candidate, which has this unfounded set, doesn't; and records it. It denies one
+/// atom of the set.
 fn exclude_unfounded(
     alloc: Global,
     level: &Level,
@@ -170,7 +180,15 @@ fn exclude_unfounded(
     ensures placed { work.new.search.count ≡ work.old.search.count }
     ensures learned { Learns level.now work.old work.new }
 {
-    let clause = nogood(alloc, level.rules(), &work.set, unfounded)?;
+    let atom = first_of(unfounded.as_slice());
+    let clause = nogood_of_atom(
+        alloc,
+        level.rules(),
+        &work.set,
+        unfounded,
+        atom,
+        &work.outer,
+    )?;
     exclude(alloc, level, work, clause.as_slice())?;
     work.nogoods.push(clause)
 }
@@ -347,7 +365,7 @@ fn fault(last: Answered, level: u32, budget: u64) -> Option<Give>
             budget,
         })),
         Answered::NoMemory => Some(Give::NoMemory),
-        Answered::Nothing | Answered::Found | Answered::Core => None,
+        Answered::Unasked | Answered::Nothing | Answered::Found | Answered::Core => None,
     }
 }
 
@@ -359,6 +377,7 @@ fn fresh_answer(alloc: Global, level: &Level, budget: u64, work: &mut Work) -> R
     ensures outer { work.new.outer ≡ work.old.outer }
     ensures region { work.new.region ≡ work.old.region }
     ensures ordered { work.new.ordered ≡ work.old.ordered }
+    ensures kept { work.new.kept.items ≡ work.old.kept.items }
     ensures blocked { work.new.blocked ≡ work.old.blocked }
     ensures last { last_of level.now budget work.new ≡ last_after result }
     ensures found { (set : List Bool) → result ≡ Ok (Step.Found set)
@@ -382,10 +401,12 @@ fn fresh_answer(alloc: Global, level: &Level, budget: u64, work: &mut Work) -> R
 pub fn next_answer(alloc: Global, level: &Level, budget: u64, work: &mut Work) -> Result<Step, Give>
     requires ready { IsLevel level.now }
     requires settled { IsSettled level.now budget work.old }
+    requires asked { work.old.last ≢ answered.Unasked }
     ensures settled { IsSettled level.now budget work.new }
     ensures outer { work.new.outer ≡ work.old.outer }
     ensures region { work.new.region ≡ work.old.region }
     ensures ordered { work.new.ordered ≡ work.old.ordered }
+    ensures kept { work.new.kept.items ≡ work.old.kept.items }
     ensures blocked { work.new.blocked ≡ work.old.blocked }
     ensures last { last_of level.now budget work.new ≡ last_after result }
     ensures found { (set : List Bool) → result ≡ Ok (Step.Found set)
@@ -402,49 +423,4 @@ pub fn next_answer(alloc: Global, level: &Level, budget: u64, work: &mut Work) -
         Some(give) => Err(give),
         None => fresh_answer(alloc, level, budget, work),
     }
-}
-
-/// The other literals of the same atoms.
-fn opposites(alloc: Global, cube: &[Lit]) -> Result<Vec<Lit>, NoMemory>
-    ensures { IfOk result (λ others. others.items ≡ map opposite cube.now) }
-{
-    let mut others = Vec::new(alloc);
-    for literal in cube {
-        others.push(Lit {
-            atom: literal.atom,
-            positive: !literal.positive,
-        })?;
-    }
-    Ok(others)
-}
-
-/// Blocks a cube: its moves are found no more.
-///
-/// `NoMemory`: memory was refused. The search may then have the cube's clause without the cube being among the blocked.
-pub fn block_cube(
-    alloc: Global,
-    level: &Level,
-    budget: u64,
-    work: &mut Work,
-    cube: &[Lit],
-) -> Result<(), NoMemory>
-    requires ready { IsLevel level.now }
-    requires asked { IsAsked level.now budget work.old }
-    requires inside { (l : Lit) → IsIn l cube.now → holds (upper level.now) l.atom ≡ true }
-    ensures serves { Serves level.now budget work.new.search }
-    ensures asked { OnOk result (IsAsked level.now budget work.new) }
-    ensures more { OnOk result (work.new.blocked ≡ work.old.blocked ++ cube.now ∷ []) }
-    ensures blocked { OnErr result (work.new.blocked ≡ work.old.blocked) }
-    ensures outer { work.new.outer ≡ work.old.outer }
-    ensures region { work.new.region ≡ work.old.region }
-    ensures ordered { work.new.ordered ≡ work.old.ordered }
-    ensures set { work.new.set ≡ work.old.set }
-    ensures last { work.new.last ≡ work.old.last }
-    ensures placed { work.new.search.count ≡ work.old.search.count }
-    ensures learned { Learns level.now work.old work.new }
-{
-    let kept = List::from_slice(alloc, cube)?;
-    let others = opposites(alloc, cube)?;
-    add_loosely(alloc, level, others.as_slice(), &mut work.search)?;
-    work.blocked.push(kept)
 }

@@ -1,5 +1,5 @@
 //! A new question.
-ghost use Rattle.std.specs.Prelude.{◌≡◌, ◌++◌, [], None, length, map, IsTrue, IfOk, OnOk, OnErr};
+ghost use Rattle.std.specs.Prelude.{◌≡◌, ◌++◌, [], None, false, length, map, IsTrue, IfOk, OnOk, OnErr};
 ghost use Rattle.asp_defs.specs.Interpretations.{holds};
 ghost use Rattle.asp_bits.specs.Places.{true_places};
 ghost use Rattle.asp_game.specs.Questions.{is_outer, is_region};
@@ -7,7 +7,7 @@ ghost use Rattle.asp_completion.specs.Codes.{code as code_of, codes, literal as 
 ghost use Rattle.asp_answers.specs.Assumptions.{assumed_literals};
 ghost use Rattle.asp_completion.specs.Levels.{game_at, upper, lower, rules_at, IsLevel};
 ghost use Rattle.asp_completion.specs.Meanings.{IsFilled};
-ghost use Rattle.asp_answers.specs.Works.{Serves, IsPrepared, IsAsked};
+ghost use Rattle.asp_answers.specs.Works.{Serves, IsAsked};
 ghost use Rattle.asp_answers.specs.Recorded.{Learns};
 ghost use Rattle.asp_answers.specs.declared.work.Answered.TheVariants as answered;
 
@@ -94,73 +94,53 @@ fn fill(alloc: Global, level: &Level, search: &mut Search) -> Result<(), NoMemor
     add_completion(alloc, level, search)
 }
 
-/// The search for the moves of a new question: it has the clauses of the rules and of their completion, under the outer
-/// move and the region.
-fn prepare(
-    alloc: Global,
-    level: &Level,
-    budget: u64,
-    outer: &Bits,
-    region: &[Lit],
-) -> Result<Search, NoMemory>
+/// A search that has the clauses of the level's rules and of their completion.
+fn filled(alloc: Global, level: &Level, budget: u64) -> Result<Search, NoMemory>
     requires ready { IsLevel level.now }
-    requires places { length outer.now ≡ length (game_at level.now).bases.atoms }
-    requires region { IsTrue (is_region (game_at level.now) level.now.number region.now) }
-    ensures { IfOk result (λ search. IsPrepared level.now budget search outer.now region.now) }
+    ensures { IfOk result (λ search. Serves level.now budget [] search) }
 {
     let mut search = Search::new(alloc, level.size(), budget)?;
     fill(alloc, level, &mut search)?;
-    begin_under(alloc, level, &mut search, outer, region)?;
     Ok(search)
 }
 
-/// The work on a new question: a search with the clauses of the rules, under the outer move and the region.
-pub fn ask(
-    alloc: Global,
-    level: &Level,
-    budget: u64,
-    outer: &Bits,
-    region: &[Lit],
-    ordered: bool,
-) -> Result<Work, NoMemory>
+/// The work before the first question: a search that has the clauses of the level's rules.
+pub fn start(alloc: Global, level: &Level, budget: u64) -> Result<Work, NoMemory>
     requires ready { IsLevel level.now }
-    requires places { length outer.now ≡ length (game_at level.now).bases.atoms }
-    requires outer { IsTrue (is_outer (game_at level.now) level.now.number (true_places outer.now)) }
-    requires region { IsTrue (is_region (game_at level.now) level.now.number region.now) }
-    ensures asked { IfOk result (λ work. IsAsked level.now budget work) }
-    ensures outer { IfOk result (λ work. work.outer ≡ outer.now) }
-    ensures region { IfOk result (λ work. work.region ≡ region.now) }
-    ensures ordered { IfOk result (λ work. work.ordered ≡ ordered) }
+    ensures serves { IfOk result (λ work. Serves level.now budget work.kept.items work.search) }
+    ensures kept { IfOk result (λ work. work.kept.items ≡ []) }
+    ensures outer { IfOk result (λ work. work.outer ≡ []) }
+    ensures region { IfOk result (λ work. work.region ≡ []) }
+    ensures ordered { IfOk result (λ work. work.ordered ≡ false) }
     ensures blocked { IfOk result (λ work. work.blocked ≡ []) }
-    ensures last { IfOk result (λ work. work.last ≡ answered.Nothing) }
-    ensures placed { IfOk result (λ work. work.search.count ≡ 0) }
-    ensures trail { IfOk result (λ work. work.search.trail ≡ []) }
-    ensures checked { IfOk result (λ work. work.check.count ≡ 0) }
     ensures nogoods { IfOk result (λ work. work.nogoods ≡ []) }
+    ensures last { IfOk result (λ work. work.last ≡ answered.Unasked) }
 {
-    let own_outer = outer.copy(alloc)?;
-    let own_region = List::from_slice(alloc, region)?;
-    let set = Bits::new(alloc, level.atoms())?;
+    let outer = Bits::new(alloc, 0)?;
+    let set = Bits::new(alloc, 0)?;
+    let kept = Vec::new(alloc);
+    let region = List::new(alloc);
     let blocked = List::new(alloc);
     let nogoods = List::new(alloc);
     let check = Search::new(alloc, 0, budget)?;
-    let search = prepare(alloc, level, budget, outer, region)?;
+    let search = filled(alloc, level, budget)?;
     Ok(Work {
         search,
         check,
-        outer: own_outer,
-        region: own_region,
-        ordered,
+        kept,
+        outer,
+        region,
+        ordered: false,
         blocked,
         nogoods,
         set,
-        last: Answered::Nothing,
+        last: Answered::Unasked,
     })
 }
 
-/// Puts a further question to the work on one. The search keeps its firm clauses and what it learned from them. `NoMemory`: memory
-/// was refused, and all is as it was.
-pub fn ask_again(
+/// Puts a question. The search keeps its firm clauses and what it learned from them. `NoMemory`: memory was refused, and all is as
+/// it was.
+pub fn ask(
     alloc: Global,
     level: &Level,
     budget: u64,
@@ -170,7 +150,7 @@ pub fn ask_again(
     ordered: bool,
 ) -> Result<(), NoMemory>
     requires ready { IsLevel level.now }
-    requires serves { Serves level.now budget work.old.search }
+    requires serves { Serves level.now budget work.old.kept.items work.old.search }
     requires places { length outer.now ≡ length (game_at level.now).bases.atoms }
     requires outer { IsTrue (is_outer (game_at level.now) level.now.number (true_places outer.now)) }
     requires region { IsTrue (is_region (game_at level.now) level.now.number region.now) }
@@ -178,6 +158,7 @@ pub fn ask_again(
     ensures outer { OnOk result (work.new.outer ≡ outer.now) }
     ensures region { OnOk result (work.new.region ≡ region.now) }
     ensures ordered { OnOk result (work.new.ordered ≡ ordered) }
+    ensures kept { work.new.kept.items ≡ work.old.kept.items }
     ensures blocked { OnOk result (work.new.blocked ≡ []) }
     ensures last { OnOk result (work.new.last ≡ answered.Nothing) }
     ensures placed { OnOk result (work.new.search.count ≡ 0) }

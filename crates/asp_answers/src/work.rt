@@ -6,7 +6,9 @@ use asp_search::Search;
 /// The last answer to a question.
 #[derive(Debug, Drop, Clone, Copy, PartialEq, Eq)]
 pub enum Answered {
-    /// None yet.
+    /// None, since there was no question.
+    Unasked,
+    /// None since the question.
     Nothing,
     /// A move.
     Found,
@@ -27,12 +29,14 @@ pub struct Counts {
     pub checks: u64,
 }
 
-/// A question for moves, and what it is searched with.
+/// A question for moves, or none yet, and what it is searched with.
 #[derive(Drop)]
 pub struct Work {
     pub search: Search,
     /// The search of the last check of a candidate.
     pub check: Search,
+    /// The cubes that are left out of every question.
+    pub kept: Vec<List<Lit>>,
     pub outer: Bits,
     pub region: List<Lit>,
     /// Whether the least move is wanted first.

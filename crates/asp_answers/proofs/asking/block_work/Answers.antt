@@ -9,8 +9,8 @@ returns-in-Ok-clause-settled c =
 
 pub returns-in-Ok-clause-blocked : goal.returns-in-Ok-clause-blocked
 returns-in-Ok-clause-blocked c =
-    blocked-state c.args.level.now c.args.budget 0 0 c.args.work.now c.block_cube.new.work c.args.cube.now c.in-Ok.ensures.outer
-    c.in-Ok.ensures.region c.in-Ok.ensures.ordered c.in-Ok.ensures.set c.in-Ok.ensures.last c.in-Ok.ensures.more
+    blocked-state c.args.level.now c.args.budget 0 0 c.args.work.now c.block_cube.new.work c.in-Ok.ensures.outer c.in-Ok.ensures.region
+    c.in-Ok.ensures.ordered c.args.cube.now c.in-Ok.ensures.kept c.in-Ok.ensures.set c.in-Ok.ensures.last c.in-Ok.ensures.more
 
 pub returns-in-Err-clause-settled : goal.returns-in-Err-clause-settled
 returns-in-Err-clause-settled c =
@@ -19,7 +19,7 @@ returns-in-Err-clause-settled c =
 pub returns-in-Err-clause-no_memory : goal.returns-in-Err-clause-no_memory
 returns-in-Err-clause-no_memory c =
     refused-state c.args.level.now c.args.budget 0 0 c.args.work.now (record c.block_cube.new.work { last = answered.NoMemory })
-    c.in-Err.ensures.outer c.in-Err.ensures.region c.in-Err.ensures.ordered c.in-Err.ensures.blocked refl
+    c.in-Err.ensures.outer c.in-Err.ensures.region c.in-Err.ensures.ordered c.in-Err.ensures.kept c.in-Err.ensures.blocked refl
 
 pub returns-in-Ok-clause-placed : goal.returns-in-Ok-clause-placed
 returns-in-Ok-clause-placed c = c.in-Ok.ensures.placed

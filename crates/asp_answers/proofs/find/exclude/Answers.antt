@@ -20,7 +20,7 @@ returns-clause-asked c = λ budget asked.
     (λ (adds : AddsTo w.search c.add_literals.new.search (codes (upper l) c.args.clause.now)).
     asked-added l c.requires.ready budget w asked c.add_literals.new.search c.args.clause.now c.requires.sound adds)
     (λ (same : c.add_literals.new.search ≡ w.search).
-    subst (λ (s : SearchState). Asked l budget s w.outer w.region w.ordered w.blocked w.set) (sym same) asked)
+    subst (λ (s : SearchState). Asked l budget s w.outer w.region w.ordered w.kept.items w.blocked w.set) (sym same) asked)
     c.add_literals.ensures.added c.add_literals.ensures.unchanged
 
 pub returns-clause-fewer : goal.returns-clause-fewer

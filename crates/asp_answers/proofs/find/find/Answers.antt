@@ -21,7 +21,7 @@ returns-in-Some-clause-kept c =
 pub loop-answer-init : goal.loop-answer-init
 loop-answer-init c = (
   c.requires.asked,
-  record { same_outer = refl; same_region = refl; same_order = refl; same_blocked = refl; same_last = refl },
+  record { same_outer = refl; same_region = refl; same_order = refl; same_kept = refl; same_blocked = refl; same_last = refl },
   omega arith,
   learned-self c.args.level.now c.args.work.now.search c.args.work.now.nogoods,
 )

@@ -6,7 +6,7 @@ use Rattle.asp_answers.proofs.find.fresh_answer.Goals as goal
 pub returns-clause-settled : goal.returns-clause-settled
 returns-clause-settled c = record {
   serves = serves-asked c.args.level.now c.args.budget c.find-answer.new.work c.find-answer.ensures.asked;
-  asked = λ _. c.find-answer.ensures.asked;
+  asked = λ put given. c.find-answer.ensures.asked;
   spent = λ k e.
       spent-after c.args.level.now c.args.budget c.find-answer.new.work.search c.find-answer.new.work.check c.find-answer.result
       c.find-answer.ensures.spent k (sym c.answered-work.ensures ∙ e);
@@ -37,3 +37,6 @@ returns-clause-found c = λ set e. (c.find-answer.ensures.found set e).1
 
 pub returns-clause-learned : goal.returns-clause-learned
 returns-clause-learned c = c.find-answer.ensures.learned
+
+pub returns-clause-kept : goal.returns-clause-kept
+returns-clause-kept c = c.find-answer.ensures.kept.same_kept

@@ -33,7 +33,7 @@ pub exclude-requires-clause-asked : goal.exclude-requires-clause-asked
 exclude-requires-clause-asked c =
     let l = c.args.level.now in
     let w = c.args.work.now in
-    subst (λ (b : ℕ). Asked l b w.search w.outer w.region w.ordered w.blocked w.set) (sym c.requires.asked.budget_is) c.requires.asked
+    subst (λ (b : ℕ). Asked l b w.search w.outer w.region w.ordered w.kept.items w.blocked w.set) (sym c.requires.asked.budget_is) c.requires.asked
 
 pub exclude-requires-clause-sound : goal.exclude-requires-clause-sound
 exclude-requires-clause-sound c =

@@ -70,7 +70,7 @@ pub exclude_unfounded-requires-clause-asked : goal.exclude_unfounded-requires-cl
 exclude_unfounded-requires-clause-asked c =
     let l = c.args.level.now in
     let w = c.args.work.now in
-    subst (λ (b : ℕ). Asked l b w.search w.outer w.region w.ordered w.blocked w.set) (sym c.requires.asked.budget_is) c.requires.asked
+    subst (λ (b : ℕ). Asked l b w.search w.outer w.region w.ordered w.kept.items w.blocked w.set) (sym c.requires.asked.budget_is) c.requires.asked
 
 pub exclude_unfounded-requires-clause-refuted : goal.exclude_unfounded-requires-clause-refuted
 exclude_unfounded-requires-clause-refuted c =

@@ -25,7 +25,7 @@ returns-in-Some-clause-again c = λ give e.
 
 pub fresh_answer-requires-clause-asked : goal.fresh_answer-requires-clause-asked
 fresh_answer-requires-clause-asked c =
-    c.requires.settled.asked
+    c.requires.settled.asked c.requires.asked
     ((no_fault c.args.level.now c.args.budget c.args.work.now.set c.args.work.now.last (sym c.fault.ensures ∙ c.in-None.is)).0)
 
 pub returns-in-None-clause-again : goal.returns-in-None-clause-again

@@ -43,7 +43,7 @@ read-requires-clause-inside c = (asked_after (goal.at.read-requires-clause-insid
 pub judge-requires-clause-asked : goal.judge-requires-clause-asked
 judge-requires-clause-asked c =
     let a = asked_after (goal.at.judge-requires-clause-asked c).After-run in
-    asked-moved c.args.level.now c.requires.ready c.args.budget c.run.new.work a c.run.new.work.search c.run.new.work.blocked
+    asked-moved c.args.level.now c.requires.ready c.args.budget c.run.new.work a c.run.new.work.search c.run.new.work.kept.items c.run.new.work.blocked
     c.read.new.set a.atoms a.budget_is a.begun a.same_order refl a.means a.firm c.read.ensures.places c.read.ensures.inside
 
 pub judge-requires-clause-candidate : goal.judge-requires-clause-candidate

@@ -1,10 +1,10 @@
-use Rattle.std.proofs.Common.{◌≡◌, ◌∙◌, ◌*◌, [], ℕ, List, length, sym, ap, subst}
+use Rattle.std.proofs.Common.{◌≡◌, ◌∙◌, ◌*◌, [], ℕ, List, sym, ap, subst}
 use Rattle.std.specs.Prelude.{None}
 use Rattle.std.proofs.lemmas.Result.{on_ok_weaker}
 use Rattle.asp_bits.specs.Places.{true_places}
 use Rattle.asp_search.specs.declared.stage.Stage.TheVariants.{Begun}
 use Rattle.asp_search.specs.Seen.{AreCodes}
-use Rattle.asp_search.specs.State.{SearchState, AreDifferent}
+use Rattle.asp_search.specs.State.{AreDifferent}
 use Rattle.asp_completion.specs.Codes.{codes}
 use Rattle.asp_answers.specs.Assumptions.{assumed_literals}
 use Rattle.asp_completion.specs.Levels.{game_at, upper, lower}

@@ -1,4 +1,4 @@
-use Rattle.std.proofs.Common.{◌≡◌, ◌∙◌, ◌<◌, ◌≤◌, refl, sym, ap, subst}
+use Rattle.std.proofs.Common.{◌≡◌, ◌∙◌, ◌<◌, ◌≤◌, sym, ap, subst}
 use Rattle.std.specs.Prelude.{Result}
 use Rattle.asp_defs.specs.declared.faults.Give.{Give}
 use Rattle.asp_defs.specs.declared.faults.Unknown.{Unknown}
@@ -6,59 +6,59 @@ use Rattle.asp_defs.specs.Unknowns.{enough_placements}
 use Rattle.asp_game.specs.declared.step.Step.{Step}
 use Rattle.asp_game.specs.Answers.{IsFound, IsCore, KindRose}
 use Rattle.asp_answers.specs.declared.work.Counts.{Counts}
-use Rattle.asp_answers.specs.AnswersState.{AnswersState, last_in, placed_in, moves_at}
+use Rattle.asp_answers.specs.AnswersState.{AnswersState, moves_at}
 use Rattle.asp_answers.specs.Causes.{counts_with, counts_after}
-use Rattle.asp_answers.proofs.Steps.{found-alike, core-alike}
-use Rattle.asp_answers.proofs.AskedFacts.{next-state, rose-after}
-use Rattle.asp_answers.specs.Recorded.{Grows, nogoods_in}
+use Rattle.asp_answers.specs.Works.{last_with, last_of}
+use Rattle.asp_answers.proofs.AskedFacts.{at-question-found, at-question-core, spent-fewer, spent-cause, next-state, rose-after}
+use Rattle.asp_answers.specs.Recorded.{Grows}
 use Rattle.asp_answers.proofs.answers.AnswersMoves.next.Goals as goal
 
-pub next_of-answer-requires-clause-asked : goal.next_of-answer-requires-clause-asked
-next_of-answer-requires-clause-asked c = λ e.
+pub next_answer-answer-requires-clause-asked : goal.next_answer-answer-requires-clause-asked
+next_answer-answer-requires-clause-asked c = λ e.
     let i = c.self.inside in
-    c.requires (sym (ap (λ (st : AnswersState). st.moves.last) c.self.view_is) ∙ ap (last_in i.level i.budget) e)
+    c.requires (sym (ap (λ (st : AnswersState). st.moves.last) c.self.view_is) ∙ ap (last_with i.level i.budget i.work.set) e)
 
 pub invariant_of-self : goal.invariant_of-self
 invariant_of-self c = record {
   level = c.self.invariant.level;
-  settled = c.next_of-answer.ensures.settled;
-  recorded = c.next_of-answer.ensures.learned.recorded c.self.invariant.recorded;
-  none = c.self.invariant.none;
+  settled = c.next_answer-answer.ensures.settled;
+  recorded = c.next_answer-answer.ensures.learned.recorded c.self.invariant.recorded;
 }
 
 pub returns-clause-found : goal.returns-clause-found
 returns-clause-found c = λ set e.
     let i = c.self.inside in
     subst (λ (st : AnswersState). IsFound st.moves set) c.self.view_is
-    (found-alike (moves_at i.level i.budget 0 0 i.work) (moves_at i.level i.budget i.searches i.checks i.work) set
-    refl refl refl refl refl (c.next_of-answer.ensures.found set e))
+    (at-question-found i.level i.budget i.searches i.checks i.work set (c.next_answer-answer.ensures.found set e))
 
 pub returns-clause-core : goal.returns-clause-core
 returns-clause-core c = λ core e.
     let i = c.self.inside in
     subst (λ (st : AnswersState). IsCore st.moves core) c.self.view_is
-    (core-alike (moves_at i.level i.budget 0 0 i.work) (moves_at i.level i.budget i.searches i.checks i.work) core
-    refl refl refl refl refl (c.next_of-answer.ensures.core core e))
+    (at-question-core i.level i.budget i.searches i.checks i.work core (c.next_answer-answer.ensures.core core e))
 
 pub returns-clause-again : goal.returns-clause-again
 returns-clause-again c = λ give e.
-    c.next_of-answer.ensures.again give (ap (λ (st : AnswersState). st.moves.last) c.self.view_is ∙ e)
+    c.next_answer-answer.ensures.again give (ap (λ (st : AnswersState). st.moves.last) c.self.view_is ∙ e)
 
 pub returns-clause-cause : goal.returns-clause-cause
 returns-clause-cause c = λ unknown e.
-    c.next_of-answer.ensures.cause unknown e c.counted-counts.result.searches c.counted-counts.result.checks
+    let i = c.self.inside in
+    spent-cause i.level i.budget c.counted-counts.result.searches c.counted-counts.result.checks c.next_answer-answer.new.work unknown
+    (c.next_answer-answer.ensures.spent unknown e)
 
 pub returns-clause-goes_on : goal.returns-clause-goes_on
 returns-clause-goes_on c =
     let i = c.self.inside in
-    let work = c.next_of-answer.new.work in
+    let work = c.next_answer-answer.new.work in
     let later = c.counted-counts.result.searches in
     let more = c.counted-counts.result.checks in
     record {
       question = subst (λ (st : AnswersState). moves_at i.level i.budget later more work
-          ≡ record st.moves { last = last_in i.level i.budget work; searches = later; checks = more }) c.self.view_is
-          (next-state i.level i.budget i.searches i.checks later more i.work work c.next_of-answer.ensures.outer
-          c.next_of-answer.ensures.region c.next_of-answer.ensures.ordered c.next_of-answer.ensures.blocked);
+          ≡ record st.moves { last = last_of i.level i.budget work; searches = later; checks = more }) c.self.view_is
+          (next-state i.level i.budget i.searches i.checks later more i.work work c.next_answer-answer.ensures.outer
+          c.next_answer-answer.ensures.region c.next_answer-answer.ensures.ordered c.next_answer-answer.ensures.kept
+          c.next_answer-answer.ensures.blocked);
       searches = subst (λ (st : AnswersState). st.moves.searches ≤ later) c.self.view_is c.counted-counts.ensures.searches;
       checks = subst (λ (st : AnswersState). st.moves.checks ≤ more) c.self.view_is c.counted-counts.ensures.checks;
     }
@@ -66,8 +66,8 @@ returns-clause-goes_on c =
 pub returns-clause-spent : goal.returns-clause-spent
 returns-clause-spent c = λ unknown e.
     let i = c.self.inside in
-    let work = c.next_of-answer.new.work in
-    let fewer = c.next_of-answer.ensures.spent unknown e in
+    let work = c.next_answer-answer.new.work in
+    let fewer = spent-fewer i.level i.budget work unknown (c.next_answer-answer.ensures.spent unknown e) in
     let counts : c.counted-counts.result ≡ counts_with unknown.kind i.searches i.checks =
     c.counted-counts.ensures.counts ∙ ap (λ (a : Result Step Give). counts_after a i.searches i.checks) e in
     record {
@@ -84,17 +84,17 @@ returns-clause-spent c = λ unknown e.
 pub returns-clause-searches : goal.returns-clause-searches
 returns-clause-searches c =
     ap (λ (cs : Counts). cs.searches) c.counted-counts.ensures.counts
-    ∙ ap (λ (st : AnswersState). (counts_after c.next_of-answer.result st.moves.searches st.moves.checks).searches) c.self.view_is
+    ∙ ap (λ (st : AnswersState). (counts_after c.next_answer-answer.result st.moves.searches st.moves.checks).searches) c.self.view_is
 
 pub returns-clause-checks : goal.returns-clause-checks
 returns-clause-checks c =
     ap (λ (cs : Counts). cs.checks) c.counted-counts.ensures.counts
-    ∙ ap (λ (st : AnswersState). (counts_after c.next_of-answer.result st.moves.searches st.moves.checks).checks) c.self.view_is
+    ∙ ap (λ (st : AnswersState). (counts_after c.next_answer-answer.result st.moves.searches st.moves.checks).checks) c.self.view_is
 
 pub returns-clause-placed : goal.returns-clause-placed
 returns-clause-placed c =
-    subst (λ (st : AnswersState). st.placed ≤ placed_in c.next_of-answer.new.work) c.self.view_is c.next_of-answer.ensures.placed
+    subst (λ (st : AnswersState). st.placed ≤ c.next_answer-answer.new.work.search.count) c.self.view_is c.next_answer-answer.ensures.placed
 
 pub returns-clause-grows : goal.returns-clause-grows
 returns-clause-grows c =
-    subst (λ (st : AnswersState). Grows st.nogoods (nogoods_in c.next_of-answer.new.work)) c.self.view_is c.next_of-answer.ensures.learned.grows
+    subst (λ (st : AnswersState). Grows st.nogoods c.next_answer-answer.new.work.nogoods) c.self.view_is c.next_answer-answer.ensures.learned.grows

@@ -7,8 +7,8 @@ use Rattle.asp_completion.specs.Levels.{upper}
 use Rattle.asp_completion.specs.Meanings.{AddsLooselyTo}
 use Rattle.asp_answers.proofs.Steps.{asked-blocked, opposites-inside, serves-asked, serves-same, serves-loosely}
 use Rattle.asp_answers.proofs.Recording.{learned-self, learned-same, learned-loosely}
-use Rattle.asp_answers.proofs.find.block_cube.Goals as goal
-use Rattle.asp_answers.proofs.find.block_cube.Goals.{After-as_slice}
+use Rattle.asp_answers.proofs.cubes.block_cube.Goals as goal
+use Rattle.asp_answers.proofs.cubes.block_cube.Goals.{After-as_slice}
 
 others_are : (c : After-as_slice) → c.as_slice.result.now ≡ map opposite c.args.cube.now
 others_are c = c.as_slice.ensures.value ∙ c.in_ok-others.ensures
@@ -40,7 +40,7 @@ pub returns-clause-serves : goal.returns-clause-serves
 returns-clause-serves c =
     let l = c.args.level.now in
     let w = c.args.work.now in
-    serves-loosely l c.args.budget w.search c.add_loosely.new.search (codes (upper l) c.as_slice.result.now) c.in_ok-add_loosely.ensures.added
+    serves-loosely l c.args.budget w.kept.items w.search c.add_loosely.new.search (codes (upper l) c.as_slice.result.now) c.in_ok-add_loosely.ensures.added
     (serves-asked l c.args.budget w c.requires.asked)
 
 pub returns-in_err-kept-clause-serves : goal.returns-in_err-kept-clause-serves
@@ -51,7 +51,7 @@ returns-in_err-others-clause-serves c = serves-asked c.args.level.now c.args.bud
 
 pub returns-in_err-add_loosely-clause-serves : goal.returns-in_err-add_loosely-clause-serves
 returns-in_err-add_loosely-clause-serves c =
-    serves-same c.args.level.now c.args.budget c.args.work.now.search c.add_loosely.new.search c.in_err-add_loosely.ensures.unchanged
+    serves-same c.args.level.now c.args.budget c.args.work.now.kept.items c.args.work.now.search c.add_loosely.new.search c.in_err-add_loosely.ensures.unchanged
     (serves-asked c.args.level.now c.args.budget c.args.work.now c.requires.asked)
 
 pub returns-in_err-kept-clause-learned : goal.returns-in_err-kept-clause-learned

@@ -1,6 +1,6 @@
 use Rattle.std.proofs.Common.{◌≡◌, map, take}
 use Rattle.asp_completion.specs.Codes.{opposite}
-use Rattle.asp_answers.proofs.find.opposites.Given as goal
+use Rattle.asp_answers.proofs.cubes.opposites.Given as goal
 
 -- the other literals of those so far
 abbrev pub invariant-loop-literal : goal.invariant-loop-literal
