@@ -304,6 +304,8 @@ pub fn ask_nogood(
 /// Each of the two atoms alone is supported by the other.
 const LOOP: &str = "%@exists a :- b. b :- a.";
 
+const LOOPS: &str = "%@exists a :- b. b :- a. c :- d. d :- c.";
+
 /// All three stay or leave together.
 const CYCLE: &str = "%@exists a | b | c. a :- b. b :- c. c :- a.";
 
@@ -315,7 +317,7 @@ const NEGATION: &str = "%@exists a :- not b. b :- not a. :- c.";
 /// A text, the free atoms, the set, the budget and the answer.
 type Asked = (&'static str, u32, u32, u64, Answer);
 
-const ANSWERS: [Asked; 28] = [
+const ANSWERS: [Asked; 35] = [
     (LOOP, 0, A | B, 9, Answer::No(A | B)),
     (LOOP, 0, 0, 9, Answer::Yes),
     (LOOP, A, A | B, 9, Answer::Yes),
@@ -364,7 +366,29 @@ const ANSWERS: [Asked; 28] = [
         0,
         Answer::No(C),
     ),
-    (LOOP, 0, A | B, 0, Answer::Spent),
+    // Without a disjunction nothing is searched for.
+    (LOOP, 0, A | B, 0, Answer::No(A | B)),
+    (LOOP, B, A | B, 0, Answer::Yes),
+    // Of two loops one is named, with what it needs.
+    (LOOPS, 0, A | B | C | D, 0, Answer::No(A | B)),
+    (LOOPS, A, A | B | C | D, 0, Answer::No(C | D)),
+    (
+        "%@exists a :- b. b :- a. b :- c. c :- d. d :- c.",
+        0,
+        A | B | C | D,
+        0,
+        Answer::No(A | B | C | D),
+    ),
+    // The disjunction supports the loop, since no other atom of its head is true.
+    ("%@exists a | c. a :- b. b :- a.", 0, A | B, 0, Answer::Yes),
+    (
+        "%@exists a | b. a :- b. b :- a.",
+        0,
+        A | B,
+        0,
+        Answer::Spent,
+    ),
+    ("%@exists a | b. a :- b. b :- a.", 0, A | B, 9, Answer::Yes),
     // With a true, the disjunction doesn't support b.
     ("%@exists a | b. a :- b.", 0, A | B, 0, Answer::No(B)),
     ("%@exists a | b. a :- b.", B, A | B, 3, Answer::Yes),

@@ -1,8 +1,10 @@
 //! A small implementation, and a caller that is generic over the trait.
-ghost use Rattle.std.specs.Prelude.{◌≡◌, ◌≢◌, [], ◌∷◌, List, Bool, true, false, not, IsTrue, IfOk, length};
+ghost use Rattle.std.specs.Prelude.{◌≡◌, ◌≢◌, [], ◌∷◌, ◌++◌, List, Bool, true, false, not, IsTrue, IfOk, length};
 ghost use Rattle.std.specs.List.{list_all};
 ghost use Rattle.asp_defs.specs.declared.ground.Lit.{Lit};
 ghost use Rattle.asp_defs.specs.Entries.{lit_true, cube_holds};
+ghost use Rattle.asp_defs.specs.Games.{base};
+ghost use Rattle.asp_defs.specs.Interpretations.{holds};
 ghost use Rattle.asp_game.specs.State.{Unasked};
 ghost use Rattle.asp_game.specs.Answers.{IsCore};
 ghost use Rattle.asp_game.specs.Questions.{is_open, is_region};
@@ -19,6 +21,7 @@ use std::test::Fail;
 /// The moves of the one level of `{a}.`, the one without the atom first.
 #[derive(Drop)]
 struct OneChoice {
+    kept: List<List<Lit>>,
     region: List<Lit>,
     ordered: bool,
     blocked: List<List<Lit>>,
@@ -50,9 +53,16 @@ fn is_outside(cubes: &[List<Lit>], value: bool) -> bool
 
 impl OneChoice {
     fn is_open(&self, value: bool) -> bool
-        ensures { result ≡ is_open self.now.region self.now.blocked (set_of value) }
+        ensures { result ≡ is_open self.now.region (self.now.kept ++ self.now.blocked) (set_of value) }
     {
-        is_in(self.region.as_slice(), value) && is_outside(self.blocked.as_slice(), value)
+        is_in(self.region.as_slice(), value) && self.is_left(value)
+    }
+
+    /// Whether the move is outside all cubes that are left out.
+    fn is_left(&self, value: bool) -> bool
+        ensures { result ≡ list_all (λ cube. not (cube_holds cube (set_of value))) (self.now.kept ++ self.now.blocked) }
+    {
+        is_outside(self.kept.as_slice(), value) && is_outside(self.blocked.as_slice(), value)
     }
 }
 
@@ -70,6 +80,7 @@ impl Moves for OneChoice {
       game = one_choice;
       level = 1;
       budget = 0;
+      kept = moves.kept;
       outer = [];
       region = moves.region;
       ordered = moves.ordered;
@@ -87,15 +98,13 @@ impl Moves for OneChoice {
         ordered: bool,
     ) -> Result<(), NoMemory> {
         let region = List::from_slice(alloc, region)?;
-        *self = OneChoice {
-            region,
-            ordered,
-            blocked: List::new(alloc),
-            found: None,
-            begun: true,
-            core: false,
-            refused: false,
-        };
+        self.region = region;
+        self.ordered = ordered;
+        self.blocked = List::new(alloc);
+        self.found = None;
+        self.begun = true;
+        self.core = false;
+        self.refused = false;
         Ok(())
     }
 
@@ -132,6 +141,18 @@ impl Moves for OneChoice {
         self.refused = added.is_err();
         added
     }
+
+    fn keep(&mut self, alloc: Global, cube: &[Lit]) -> Result<(), NoMemory> {
+        let kept = List::from_slice(alloc, cube);
+        let added = match kept {
+            Ok(cube) => self.kept.push(cube),
+            Err(fault) => Err(fault),
+        };
+        if added.is_err() {
+            self.refused = self.begun;
+        }
+        added
+    }
 }
 
 /// Asks until no move is left, and answers the core. Each move is blocked with all others.
@@ -150,6 +171,7 @@ fn exhaust<M: Moves>(alloc: Global, moves: &mut M) -> Result<List<Lit>, Give>
 /// A new one, which was asked for nothing.
 fn one_choice(alloc: Global) -> OneChoice {
     OneChoice {
+        kept: List::new(alloc),
         region: List::new(alloc),
         ordered: false,
         blocked: List::new(alloc),
@@ -191,6 +213,29 @@ fn a_small_implementation_meets_the_trait(rt: HostRuntime) -> Result<(), Fail> {
     }];
     expect(is_first_in(alloc, &[], false)?, "all moves")?;
     expect(is_first_in(alloc, &with_atom, true)?, "moves with the atom")
+}
+
+/// Whether one is whose cube was kept before the question.
+fn is_first_without(alloc: Global, cube: &[Lit], value: bool) -> Result<bool, Give>
+    requires { IsTrue (list_all (λ l. holds (base one_choice 1) l.atom) cube.now) }
+{
+    let mut moves = one_choice(alloc);
+    moves.keep(alloc, cube)?;
+    let outer = Bits::new(alloc, 1)?;
+    moves.begin(alloc, &outer, &[], false)?;
+    is_first(alloc, &mut moves, value)
+}
+
+#[test]
+fn a_kept_cube_stays_left_out(rt: HostRuntime) -> Result<(), Fail> {
+    let without_atom = [Lit {
+        atom: 0,
+        positive: false,
+    }];
+    expect(
+        is_first_without(rt.alloc(), &without_atom, true)?,
+        "moves without a kept one",
+    )
 }
 
 /// A gate that notes who passed last.

@@ -16,7 +16,7 @@ use Rattle.asp_defs.proofs.Subsets.{true_is_not_false, holds_from}
 use Rattle.asp_defs.specs.declared.ground.Game.{Game}
 use Rattle.asp_defs.specs.Games.{base}
 use Rattle.asp_game.specs.State.{MovesState, Last, Unasked, Asked, FoundMove, FoundCore, asked, with_blocked}
-use Rattle.asp_game.specs.Answers.{GoesOn, IsBlockable}
+use Rattle.asp_game.specs.Answers.{GoesOn, IsBlockable, is_on_base}
 use Rattle.asp_game.specs.Questions.{atoms_differ}
 use Rattle.moves_tests.specs.Asking.{IsWithin, IsCubeOf, IsAsked}
 
@@ -89,6 +89,13 @@ blockable s B I cube xs xs_are base_is last c = record {
   atoms = ap (list_all (λ l. holds (base s.game s.level) l.atom)) xs_are
       ∙ subst (λ (C : List ℕ). list_all (λ l. holds C l.atom) cube ≡ true) base_is c.atoms;
 }
+
+-- a cube of the level's atoms
+pub on_base : (s : MovesState) (g : Game) (i : ℕ) (B : List ℕ) (cube : List Lit) → s.game ≡ g → s.level ≡ i → B ≡ base g i
+    → list_all (λ l. holds B l.atom) cube ≡ true → is_on_base s cube ≡ true
+on_base s g i B cube game_is level_is base_is h =
+    let same : B ≡ base s.game s.level = base_is ∙ (ap (λ (f : Game). base f i) (sym game_is) ∙ ap (base s.game) (sym level_is)) in
+    subst (λ (C : List ℕ). list_all (λ l. holds C l.atom) cube ≡ true) same h
 
 found_is_asked : (last : Last) (I : List ℕ) → last ≡ FoundMove I → last ≢ Unasked
 found_is_asked last I e f = absurd (let never : FoundMove I ≡ Unasked = sym e ∙ f in cc)

@@ -5,7 +5,7 @@ ghost use Rattle.asp_defs.specs.Games.{IsValid, level_count, base as base_of};
 ghost use Rattle.asp_game.specs.State.{Unasked, FoundMove};
 ghost use Rattle.moves_tests.specs.Asking.{IsAsked};
 
-use crate::questions::{base, is_region, literals, outer_move};
+use crate::questions::{are_in, base, is_region, literals, outer_move};
 use asp_answers::Answers;
 use asp_bits::Bits;
 use asp_defs::{Game, Lit, NoMemory};
@@ -168,6 +168,31 @@ pub fn put(
     }
     let outer = outer_move(alloc, game, level, outer)?;
     match answers.begin(alloc, &outer, region, false) {
+        Ok(()) => Some(()),
+        Err(_) => None,
+    }
+}
+
+/// Keeps a cube, if the level's base has its atoms.
+pub fn keep(
+    alloc: Global,
+    answers: &mut Answers,
+    game: &Game,
+    level: u32,
+    cube: &[Lit],
+) -> Option<()>
+    requires valid { IsValid game.now }
+    requires last { level ≤ level_count game.now }
+    requires game { answers.old.moves.game ≡ game.now }
+    requires level { answers.old.moves.level ≡ level }
+    ensures game { IfSome result (λ kept. answers.new.moves.game ≡ game.now) }
+    ensures level { IfSome result (λ kept. answers.new.moves.level ≡ level) }
+    ensures last { IfSome result (λ kept. answers.new.moves.last ≡ answers.old.moves.last) }
+{
+    if !are_in(base(game, level), cube) {
+        return None;
+    }
+    match answers.keep(alloc, cube) {
         Ok(()) => Some(()),
         Err(_) => None,
     }

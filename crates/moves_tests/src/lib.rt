@@ -6,6 +6,7 @@
 //! | `questions` | outer moves, regions and cubes, as the calls want them, for the next |
 //! | `asked` | the moves of a level as masks, and their core |
 //! | `rows` | levels whose moves were worked out by hand; budgets |
+//! | `kept` | cubes that are kept |
 //! | `meaning` | what moves are, by the definitions |
 //! | `written` | texts of random levels |
 //! | `drawn` | the moves of random levels |
@@ -15,6 +16,8 @@
 mod asked;
 #[cfg(test)]
 mod drawn;
+#[cfg(test)]
+mod kept;
 #[cfg(test)]
 mod meaning;
 #[cfg(test)]

@@ -66,6 +66,13 @@ fn is_in(base: &[u32], atom: u32) -> bool
     base.iter().any(|other| *other == atom)
 }
 
+/// Whether the base has the atoms of all literals.
+pub fn are_in(base: &[u32], cube: &[Lit]) -> bool
+    ensures { result ≡ list_all (λ l. holds base.now l.atom) cube.now }
+{
+    cube.iter().all(|literal| is_in(base, literal.atom))
+}
+
 fn is_own(lower: &[u32], upper: &[u32], literal: &Lit) -> bool
     ensures { result ≡ (holds upper.now literal.now.atom && not (holds lower.now literal.now.atom)) }
 {
