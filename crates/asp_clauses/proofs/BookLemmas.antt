@@ -13,7 +13,7 @@ use Rattle.asp_clauses.specs.Watches.{IsStore, book_of}
 use Rattle.asp_clauses.specs.Visits.{IsStopped, IsUnlinked}
 use Rattle.asp_clauses.specs.Kept.{kept, new_number, mark_of, kind_at, no_kind, is_firm, is_kept, from_on, AreFirmBelow, number_in, renamed, renumbered, relabelled, IsReason, AreNumbered, MarksReasons}
 use Rattle.asp_clauses.proofs.RenamedLemmas.{Removes, Goes-removed}
-use Rattle.asp_clauses.proofs.KeptLemmas.{length-kept, new_number-le, from_old}
+use Rattle.asp_clauses.proofs.KeptLemmas.{length-kept, new_number-le, new_number-le-kept, from_old, from_before}
 use Rattle.asp_clauses.proofs.FrontLemmas.{AllMarked}
 use Rattle.asp_clauses.proofs.NumberedLemmas.{labels_tell, number_of_kept, size_same}
 
@@ -112,6 +112,23 @@ AreFirm-kept kinds rest firm e h clause l =
     let len = ap length e in
     let f = from_old (map is_firm kinds) kinds clause no_kind (omega (arith, len, h, l)) in
     ap (λ (x : List Kind). is_firm (kind_at x clause)) e ∙ ap is_firm f.is ∙ sym (get_or-map is_firm kinds f.at no_kind false f.within) ∙ f.marked
+
+-- of firm kinds those that are kept are firm
+AreFirm-left : (marks : List Bool) (kinds rest : List Kind) (firm left : ℕ) → length marks ≡ length kinds → firm ≤ length kinds → AreFirmBelow kinds firm → rest ≡ kept marks kinds → left ≡ new_number marks firm → (left ≤ length rest) × AreFirmBelow rest left
+AreFirm-left marks kinds rest firm left same h f e n =
+    let len = ap length e in
+    let most = new_number-le-kept marks kinds firm same h in (
+      omega (arith, len, most, n),
+      λ clause l.
+          let was = from_old marks kinds clause no_kind (omega (arith, most, n, l)) in
+          let before = from_before marks kinds clause firm no_kind was (omega (arith, n, l)) in
+          ap (λ (x : List Kind). is_firm (kind_at x clause)) e ∙ ap is_firm was.is ∙ f was.at before,
+    )
+
+pub firm_left : (old unlinked numbered new : Watches) (marks : List Bool) (from : ℕ) (kinds rest : List Kind) (firm left : ℕ) → length kinds ≡ length old.records → Shrinks old unlinked numbered new marks from → rest ≡ kept (from_on from (map is_kept numbered.records)) kinds →
+    firm ≤ length kinds → AreFirmBelow kinds firm → left ≡ new_number (from_on from (map is_kept numbered.records)) firm → (left ≤ length rest) × AreFirmBelow rest left
+firm_left old unlinked numbered new marks from kinds rest firm left e s k h f n =
+    AreFirm-left marks kinds rest firm left (s.many ∙ sym e) h f (kinds_kept old unlinked numbered new marks from kinds rest s k) (n ∙ ap (λ (m : List Bool). new_number m firm) (tell old unlinked numbered new marks from s))
 
 pub firm_marked : (kinds : List Kind) (firm : ℕ) → firm ≤ length kinds → AreFirmBelow kinds firm → AllMarked (map is_firm kinds) firm
 firm_marked kinds firm h f k l = get_or-map is_firm kinds k no_kind false (omega (arith, h, l)) ∙ f k l

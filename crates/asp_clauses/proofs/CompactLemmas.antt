@@ -5,8 +5,7 @@ use Rattle.std.proofs.lemmas.List.{get_or-map, length-map, length-take-le, get_o
 use Rattle.std.proofs.lemmas.List.Edits.{take-paste, drop-paste, length-paste}
 use Rattle.std.proofs.lemmas.List.Sums.{count_by_more_yes, count_by_more_no}
 use Rattle.std.proofs.lemmas.Bool.{cases_lt, cases_eq, ne_eqb, eq-eqb}
-use Rattle.asp_clauses.specs.declared.records.Top.{Top}
-use Rattle.asp_clauses.specs.Records.{row_at, end, no_top, top_at, has_number}
+use Rattle.asp_clauses.specs.Records.{Top, row_at, end, no_top, top_at, has_number}
 use Rattle.asp_clauses.specs.Rows.{rows_of, row_of, AreRows}
 use Rattle.asp_clauses.specs.Kept.{kept, new_number, mark_of, itself, is_kept, number_in, from_on}
 use Rattle.asp_clauses.proofs.RowsLemmas.{length-rows_of, get_or-rows_of, row_ends, length-row_of, rows_of-push}

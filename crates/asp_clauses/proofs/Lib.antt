@@ -27,6 +27,7 @@ pub mod RenamedLemmas
 pub mod CompactLemmas
 pub mod KeepLemmas
 pub mod RecordLemmas
+pub mod NodeLemmas
 pub mod NumberedLemmas
 pub mod BookLemmas
 pub mod StepTableLemmas

@@ -3,8 +3,7 @@ use Rattle.std.proofs.Common.{◌≡◌, ℕ, zero, suc, ◌+◌, ◌-◌, ◌<�
 use Rattle.std.specs.List.{swap}
 use Rattle.std.proofs.lemmas.List.{length_push, get_or_append_left, get_or_push, get_or-set_same, get_or-set_other, set-get_or, get_or-drop}
 use Rattle.std.proofs.lemmas.Bool.{cases_lt, cases_eq}
-use Rattle.asp_clauses.specs.declared.records.Top.{Top}
-use Rattle.asp_clauses.specs.Records.{row_at, record_of, row_for, no_top, top_at, top_for, has_number, linked_top, record_at, records_of, IsTopped, AreTopped}
+use Rattle.asp_clauses.specs.Records.{Top, row_at, record_of, row_for, no_top, top_at, top_for, has_number, linked_top, record_at, records_of, IsTopped, AreTopped}
 use Rattle.asp_clauses.specs.Kept.{kept, is_kept, from_on}
 use Rattle.asp_clauses.proofs.KeptLemmas.{length-kept}
 use Rattle.asp_clauses.proofs.RowsLemmas.{swap_sets}

@@ -1,6 +1,6 @@
 -- What a record of a clause holds: the number of literals, two links, and the literals.
-use Rattle.std.specs.Prelude.{◌≡◌, ℕ, ◌<◌, ◌≤◌, ◌==◌, not, Bool, List, [], ◌∷◌, ◌++◌, length, take, drop, min, slice_index, slice_index_or, if◌then◌else◌}
-use Rattle.asp_clauses.specs.declared.records.Top.{Top}
+use Rattle.std.specs.Prelude.{◌≡◌, ℕ, ◌*◌, ◌<◌, ◌≤◌, ◌==◌, not, Bool, List, [], ◌∷◌, ◌++◌, length, take, drop, min, slice_index, slice_index_or, if◌then◌else◌}
+use Rattle.asp_clauses.specs.declared.records.Node.{Node}
 
 abbrev pub row_at : List (List ℕ) → ℕ → List ℕ
 row_at rows row = slice_index_or rows row []
@@ -30,8 +30,36 @@ clause_of row = take (slice_index row 0) (drop 1 row)
 abbrev pub row_for : ℕ → List ℕ → List ℕ
 row_for origin literals = (length literals ∷ []) ++ literals ++ drop (min (length literals) 2) (origin ∷ origin ∷ [])
 
+-- what visits read of a clause: the links of its two watches, and the two watched literals
+pub record Top : Type 0 where
+  pub first_link : ℕ
+  pub second_link : ℕ
+  pub first_watch : ℕ
+  pub second_watch : ℕ
+
 abbrev pub no_top : Top
 no_top = record { first_link = 0; second_link = 0; first_watch = 0; second_watch = 0 }
+
+abbrev pub no_node : Node
+no_node = record { next = 0; other = 0 }
+
+abbrev pub node_at : List Node → ℕ → Node
+node_at nodes node = slice_index_or nodes node no_node
+
+-- two nodes, each of which has the literal that the other watches
+abbrev pub top_of : Node → Node → Top
+top_of first second = record { first_link = first.next; second_link = second.next; first_watch = second.other; second_watch = first.other }
+
+-- what visits read of the clauses, from two nodes of each
+unfoldable pub tops_of : List Node → List Top
+tops_of [] = []
+tops_of (first ∷ []) = []
+tops_of (first ∷ second ∷ nodes) = top_of first second ∷ tops_of nodes
+
+-- the nodes of a clause that is in no list
+abbrev pub nodes_for : ℕ → List ℕ → List Node
+nodes_for origin literals =
+    (record { next = end; other = slice_index_or literals 1 origin }) ∷ (record { next = end; other = slice_index_or literals 0 origin }) ∷ []
 
 abbrev pub top_at : List Top → ℕ → Top
 top_at tops clause = slice_index_or tops clause no_top
@@ -66,3 +94,8 @@ pub record IsTopped (top : Top) (row : List ℕ) : Type 0 where
 pub record AreTopped (tops : List Top) (rows : List (List ℕ)) : Type 0 where
   pub as_many : length tops ≡ length rows
   pub each : (clause : ℕ) → clause < length rows → IsTopped (top_at tops clause) (row_at rows clause)
+
+-- two nodes a row, with the first two literals of the row
+pub record AreNodes (nodes : List Node) (rows : List (List ℕ)) : Type 0 where
+  pub as_many : length nodes ≡ 2 * length rows
+  pub topped : AreTopped (tops_of nodes) rows

@@ -8,7 +8,7 @@ ghost use Rattle.asp_clauses.specs.Records.{end};
 ghost use Rattle.asp_clauses.specs.Kept.{kept, is_firm, AreFirmBelow, mark_of, kind_at, no_kind, renumbered, IsReason};
 
 use crate::NoMemory;
-use crate::compact::{compact, count_firm, keep_added, number_clauses, number_firm, unwatch_from};
+use crate::compact::{compact, count_kept, keep_added, number_clauses, number_firm, unwatch_from};
 use crate::kind::{FIRM, Kind, LOOSE};
 use crate::trail::Trail;
 use crate::watches::Watches;
@@ -21,7 +21,7 @@ pub struct Book {
     pub(crate) watches: Watches,
     // The kind of each clause.
     kinds: Vec<Kind>,
-    // How many clauses there are before the first loose one.
+    // The first clauses, as many as this, are firm; after `settle` these are all.
     firm: u32,
 }
 
@@ -138,8 +138,8 @@ impl Book {
 
     /// Removes the loose clauses. The firm ones stay in order, and are numbered from 0.
     ///
-    /// It goes over the clauses from the first loose one on, and for each of these that is watched over the lists of its two
-    /// watches down to it; the newest stand at the front. The clauses before the first loose one cost nothing.
+    /// It goes over the clauses behind those that `firm` counts, and for each of these that is watched over the lists of its two
+    /// watches down to it; the newest stand at the front. The clauses that `firm` counts cost nothing.
     pub fn settle(&mut self, trail: &Trail)
         requires goes { Goes self.old trail.now }
         requires empty { trail.now.steps ≡ [] }
@@ -181,8 +181,9 @@ impl Book {
         self.watches.unlink_all();
         number_clauses(&mut self.watches, stays);
         trail.renumber(&self.watches.records);
+        let firm = count_kept(&self.watches.records, 0, self.firm);
         compact(&mut self.watches, &mut self.kinds, 0, watched);
-        self.firm = count_firm(self.kinds.as_slice());
+        self.firm = firm;
     }
 
     /// Shows that no clause has the number that stands for none.
@@ -199,7 +200,7 @@ impl Book {
         self.watches.records.len()
     }
 
-    /// How many clauses there are before the first loose one: these stay as they are when the book settles.
+    /// How many clauses from the first on are known to be firm: these stay as they are when the book settles.
     pub fn firm(&self) -> u32
         ensures within { result ≤ length self.now.clauses }
         ensures firm { AreFirmBelow self.now.kinds result }

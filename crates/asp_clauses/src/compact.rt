@@ -94,7 +94,7 @@ pub fn compact(watches: &mut Watches, kinds: &mut Vec<Kind>, from: u32, watched:
 }
 
 /// How many of the first clauses stay: those before `from`, and those that are numbered.
-fn count_kept(records: &Records, from: u32, watched: u32) -> u32
+pub fn count_kept(records: &Records, from: u32, watched: u32) -> u32
     requires within { watched ≤ length records.now }
     requires from { from ≤ length records.now }
     requires rows { AreLong records.now }
@@ -143,19 +143,6 @@ fn watch_first(watches: &mut Watches, watched: u32)
     while watches.watched < watched {
         watches.watch();
     }
-}
-
-/// How many clauses there are before the first loose one.
-pub fn count_firm(kinds: &[Kind]) -> u32
-    requires { length kinds.now < 2 ^ 32 }
-    ensures within { result ≤ length kinds.now }
-    ensures firm { AreFirmBelow kinds.now result }
-{
-    let mut count = 0;
-    while (count as usize) < kinds.len() && !kinds[count as usize].loose {
-        count += 1;
-    }
-    count
 }
 
 /// Has no clause watched from this one on. A clause is sought in the lists of its two watches, from the newest on.

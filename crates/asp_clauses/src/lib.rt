@@ -5,7 +5,8 @@
 //! - A `Book` keeps clauses as records. A clause is looked at only where one of its two watched literals
 //!   became false.
 //! - A record has two parts: its literals, in one flat arena, and what a visit reads at first, in a table
-//!   by the clause's number: both watched literals and their links. So most visits read from one place.
+//!   by the clause's number: two nodes, one for each watch, with the link and the literal that is watched
+//!   besides. Where that literal is true, the visit ends there, so most visits read from one place.
 //! - The clauses that watch a literal form a list, whose links lie in the records: to move a watch
 //!   takes no memory.
 //! - Learned clauses that no placed literal stands on can be removed, and loose clauses are removed when

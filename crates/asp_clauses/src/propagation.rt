@@ -10,7 +10,7 @@ ghost use Rattle.asp_clauses.specs.Choices.{IsNotFalse, RestIsFalse, IsFixpoint,
 
 use crate::book::Book;
 use crate::examine::{examine, make_true};
-use crate::records::{END, LITERALS};
+use crate::records::END;
 use crate::trail::{Spent, Trail};
 use crate::watches::Watches;
 
@@ -82,7 +82,8 @@ fn visit(watches: &mut Watches, trail: &mut Trail, falsified: u32) -> Result<Opt
         if clause == END {
             return Ok(None);
         }
-        let next = watches.next(clause, falsified);
+        let side = watches.side(clause, falsified);
+        let next = watches.records.link(clause, side);
         match visit_clause(watches, trail, falsified, previous, clause)? {
             Visited::Stays => previous = clause,
             Visited::Moved => {}
@@ -116,7 +117,8 @@ fn visit_clause(
         → (watches.new ≡ watches.old) × IsConflict (book_of watches.old) trail.new.steps clause }
     ensures spent { IsErr result → (watches.new ≡ watches.old) × IsStopped (book_of watches.old) trail.new }
 {
-    let other = watches.other(clause, falsified);
+    let side = watches.side(clause, falsified);
+    let other = watches.records.other(clause, side);
     if trail.is_true(other) {
         return Ok(Visited::Stays);
     }
@@ -139,8 +141,9 @@ fn replacement(watches: &Watches, trail: &Trail, clause: u32) -> Option<u32>
     ensures found { (index : ℕ) → result ≡ Some index → IsNotFalse watches.now trail.now.steps clause index }
     ensures none { result ≡ None → RestIsFalse watches.now trail.now.steps clause }
 {
+    let literals = watches.records.literals(clause);
     for index in 2..watches.records.cell(clause, 0) {
-        if !trail.is_false(watches.records.cell(clause, LITERALS + index as usize)) {
+        if !trail.is_false(literals[index as usize]) {
             return Some(index);
         }
     }

@@ -1,12 +1,12 @@
 //! The arena: a row of words for each clause, all in one flat vector.
 
-ghost use Rattle.std.specs.Prelude.{◌≡◌, ◌+◌, ◌-◌, ◌<◌, ◌≤◌, ◌^◌, [], ◌∷◌, ◌++◌, length, map, IfOk, OnErr, slice_index, slice_index_or, slice_set, slice_range, swap};
-ghost use Rattle.asp_clauses.specs.Records.{row_at, row_for, clause_of, has_number, end};
+ghost use Rattle.std.specs.Prelude.{◌≡◌, ◌+◌, ◌-◌, ◌*◌, ◌<◌, ◌≤◌, ◌^◌, [], ◌∷◌, ◌++◌, length, map, IfOk, OnErr, slice_index, slice_index_or, slice_set, slice_range, swap};
+ghost use Rattle.asp_clauses.specs.Records.{row_at, row_for, clause_of, has_number, tops_of, end};
 ghost use Rattle.asp_clauses.specs.Rows.{rows_of, AreRows};
 ghost use Rattle.asp_clauses.specs.Kept.{kept, from_on};
 
 use crate::NoMemory;
-use crate::records::{END, Top};
+use crate::records::{END, Node};
 use std::alloc::{AllocError, Global};
 use std::marker::Model;
 
@@ -119,30 +119,31 @@ impl Rows {
     }
 
     /// Removes the rows of the clauses without a number, from the row `from` on. The others stay in order.
-    pub fn compact(&mut self, tops: &[Top], from: u32)
-        requires tops { length tops.now ≡ length self.old }
+    pub fn compact(&mut self, nodes: &[Node], from: u32)
+        requires nodes { length nodes.now ≡ 2 * length self.old }
         requires from { from ≤ length self.old }
-        ensures { self.new ≡ kept (from_on from (map has_number tops.now)) self.old }
+        ensures { self.new ≡ kept (from_on from (map has_number (tops_of nodes.now))) self.old }
     {
-        compact_rows(&mut self.words, &mut self.starts, tops, from as usize);
+        compact_rows(&mut self.words, &mut self.starts, nodes, from as usize);
     }
 }
 
 /// Removes the rows of the clauses without a number, from the row `from` on.
-fn compact_rows(words: &mut Vec<u32>, starts: &mut Vec<u32>, tops: &[Top], from: usize)
+fn compact_rows(words: &mut Vec<u32>, starts: &mut Vec<u32>, nodes: &[Node], from: usize)
     requires rows { AreRows words.old.items starts.old.items }
-    requires tops { length tops.now ≡ length (rows_of words.old.items starts.old.items) }
-    requires from { from ≤ length tops.now }
+    requires nodes { length nodes.now ≡ 2 * length (rows_of words.old.items starts.old.items) }
+    requires from { from ≤ length (rows_of words.old.items starts.old.items) }
     ensures rows { AreRows words.new.items starts.new.items }
     ensures kept { rows_of words.new.items starts.new.items
-        ≡ kept (from_on from (map has_number tops.now)) (rows_of words.old.items starts.old.items) }
+        ≡ kept (from_on from (map has_number (tops_of nodes.now))) (rows_of words.old.items starts.old.items) }
 {
     let mut count = from;
     let mut end = starts[from] as usize;
     for row in from..starts.len() - 1 {
         let start = starts[row] as usize;
         let next = starts[row + 1] as usize;
-        if tops[row].first_link != END {
+        let node = nodes[2 * row];
+        if node.next != END {
             words.copy_within(start..next, end);
             end += next - start;
             count += 1;

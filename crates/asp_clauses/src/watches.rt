@@ -10,7 +10,7 @@ ghost use Rattle.asp_clauses.specs.Records.{row_at, end};
 ghost use Rattle.asp_clauses.specs.Visits.{IsAt, MovesWatch, Links, Unlinks, WatchesOneMore, IsUnlinked, moved, other_watch};
 
 use crate::NoMemory;
-use crate::records::{END, LINKS, LITERALS, Records};
+use crate::records::{END, LITERALS, Records};
 use std::alloc::Global;
 
 /// Clauses, and which of them are watched.
@@ -56,26 +56,6 @@ impl Watches {
         }
     }
 
-    /// The literal that the clause watches besides this one.
-    pub fn other(&self, clause: u32, literal: u32) -> u32
-        requires store { IsStore self.now }
-        requires clause { clause < length self.now.records }
-        ensures { result ≡ other_watch (row_at self.now.records clause) literal }
-    {
-        self.records
-            .cell(clause, LITERALS + 1 - self.side(clause, literal))
-    }
-
-    /// The clause after this one in the list of the literal.
-    pub fn next(&self, clause: u32, literal: u32) -> u32
-        requires store { IsStore self.now }
-        requires clause { clause < length self.now.records }
-        ensures { result ≡ link_of self.now.records literal clause }
-    {
-        self.records
-            .cell(clause, LINKS + self.side(clause, literal))
-    }
-
     /// Puts the clause at the front of the list of one of its watches.
     fn link(&mut self, clause: u32, side: usize)
         requires store { IsStore self.old }
@@ -83,7 +63,7 @@ impl Watches {
         requires side { side < 2 }
         ensures { Links self.old self.new clause side }
     {
-        let literal = self.records.cell(clause, LITERALS + side) as usize;
+        let literal = self.records.other(clause, 1 - side) as usize;
         self.records.set_link(clause, side, self.heads[literal]);
         self.heads[literal] = clause;
     }
@@ -107,12 +87,13 @@ impl Watches {
         requires code { literal ≤ 2 * self.old.atoms }
         ensures { Unlinks self.old self.new previous clause literal }
     {
-        let next = self.next(clause, literal);
+        let side = self.side(clause, literal);
+        let next = self.records.link(clause, side);
         if previous == END {
             self.heads[literal as usize] = next;
         } else {
-            let side = self.side(previous, literal);
-            self.records.set_link(previous, side, next);
+            let side_before = self.side(previous, literal);
+            self.records.set_link(previous, side_before, next);
         }
     }
 
@@ -145,7 +126,8 @@ impl Watches {
                 return previous;
             }
             previous = other;
-            other = self.next(other, literal);
+            let side = self.side(other, literal);
+            other = self.records.link(other, side);
         }
         previous
     }
@@ -182,8 +164,7 @@ impl Watches {
     {
         let side = self.side(clause, falsified);
         self.unlink(previous, clause, falsified);
-        self.records
-            .swap(clause, LITERALS + side, LITERALS + index as usize);
+        self.records.exchange(clause, side, index);
         self.link(clause, side);
     }
 }

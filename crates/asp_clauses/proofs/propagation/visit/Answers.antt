@@ -1,6 +1,7 @@
-use Rattle.std.proofs.Common.{◌≡◌, ℕ, ◌+◌, length, refl, sym, ◌∙◌, ap, subst, arith, inl, inr, Ok}
+use Rattle.std.proofs.Common.{◌≡◌, ℕ, ◌+◌, length, get_or, refl, sym, ◌∙◌, ap, subst, arith, inl, inr, Ok}
 use Rattle.std.proofs.lemmas.List.{get_or_read}
 use Rattle.asp_clauses.specs.declared.watches.Watches.{Watches}
+use Rattle.asp_clauses.specs.Records.{row_at}
 use Rattle.asp_clauses.specs.Book.{Goes}
 use Rattle.asp_clauses.specs.Watches.{book_of}
 use Rattle.asp_clauses.specs.Visits.{IsConflict}
@@ -20,6 +21,12 @@ returns-then-clause-clause-visited c = λ _.
     let first = c.args.watches.now in let start = c.args.trail.now in let watches = c.walk.watches in let trail = c.walk.trail in
     let turns = length first.records in
     AllWatched-visited first watches start trail c.args.falsified c.walk.previous c.walk.clause c.walk._turn turns c.walk.invariant (inl c.if-clause.true)
+
+pub visit_clause-requires-clause-clause : goal.visit_clause-requires-clause-clause
+visit_clause-requires-clause-clause c =
+    let first = c.args.watches.now in let start = c.args.trail.now in let watches = c.walk.watches in let trail = c.walk.trail in
+    let turns = length first.records in
+    (at_clause first watches start trail c.args.falsified c.walk.previous c.walk.clause c.walk._turn turns c.walk.invariant c.if-clause.false).watching
 
 pub visit_clause-requires-clause-previous : goal.visit_clause-requires-clause-previous
 visit_clause-requires-clause-previous c =
@@ -53,11 +60,11 @@ walk-preserved c =
     let turns = length first.records in
     let new = c.visit_clause.new.watches in let after = c.visit_clause.new.trail in
     elim c.match-branch-2.branch [
-      | in-Stays w ↦ subst (λ (n : ℕ). IsVisiting first new start after c.args.falsified n c.next-next.result (c.walk._turn + 1) turns) (sym w.previous-is)
-          (IsVisiting-stays first watches new start trail after c.args.falsified c.walk.previous c.walk.clause c.next-next.result c.walk._turn turns c.walk.invariant c.if-clause.false c.next-next.ensures
+      | in-Stays w ↦ subst (λ (n : ℕ). IsVisiting first new start after c.args.falsified n c.link-next.result (c.walk._turn + 1) turns) (sym w.previous-is)
+          (IsVisiting-stays first watches new start trail after c.args.falsified c.walk.previous c.walk.clause c.link-next.result c.walk._turn turns c.walk.invariant c.if-clause.false (c.link-next.ensures ∙ ap (λ (n : ℕ). get_or (row_at watches.records c.walk.clause) (1 + n) 0) c.side-side.ensures)
           (c.visit_clause.ensures.stays (c.in_ok-visit_clause.was ∙ ap Ok w.in-Stays.is)) c.visit_clause.ensures.goes c.visit_clause.ensures.extended c.visit_clause.ensures.head)
-      | in-Moved w ↦ subst (λ (n : ℕ). IsVisiting first new start after c.args.falsified n c.next-next.result (c.walk._turn + 1) turns) (sym w.previous-is)
-          (IsVisiting-moves first watches new start trail after c.args.falsified c.walk.previous c.walk.clause c.next-next.result c.walk._turn turns c.walk.invariant c.if-clause.false c.next-next.ensures
+      | in-Moved w ↦ subst (λ (n : ℕ). IsVisiting first new start after c.args.falsified n c.link-next.result (c.walk._turn + 1) turns) (sym w.previous-is)
+          (IsVisiting-moves first watches new start trail after c.args.falsified c.walk.previous c.walk.clause c.link-next.result c.walk._turn turns c.walk.invariant c.if-clause.false (c.link-next.ensures ∙ ap (λ (n : ℕ). get_or (row_at watches.records c.walk.clause) (1 + n) 0) c.side-side.ensures)
           (c.visit_clause.ensures.moved (c.in_ok-visit_clause.was ∙ ap Ok w.in-Moved.is)) c.visit_clause.ensures.goes)
     ]
 

@@ -1,16 +1,15 @@
 use Rattle.std.proofs.Common.{◌≡◌, ℕ, ◌<◌, List, length, map, ap, sym, ◌∙◌, arith, subst}
 use Rattle.std.proofs.lemmas.List.{length-map}
 use Rattle.asp_clauses.specs.declared.trail.Step.{Step}
-use Rattle.asp_clauses.specs.declared.kind.Kind.{Kind}
 use Rattle.asp_clauses.specs.declared.watches.Watches.{Watches}
 use Rattle.asp_clauses.specs.Records.{literals_of}
 use Rattle.asp_clauses.specs.Trail.{TrailState}
 use Rattle.asp_clauses.specs.Book.{BookState, Goes}
 use Rattle.asp_clauses.specs.Watches.{book_of}
-use Rattle.asp_clauses.specs.Kept.{kept, AreFirmBelow, IsReason}
+use Rattle.asp_clauses.specs.Kept.{kept, IsReason}
 use Rattle.asp_clauses.proofs.FrontLemmas.{AllMarked-none}
-use Rattle.asp_clauses.proofs.NumberedLemmas.{AreWatches-numbered}
-use Rattle.asp_clauses.proofs.BookLemmas.{Shrinks, Removes-from, kinds_still, still_not_empty, clauses_kept, kinds_kept, relabelled_is, reason_within, new_number_small, marked_reasons, marks_many}
+use Rattle.asp_clauses.proofs.NumberedLemmas.{AreWatches-numbered, AreLong-store}
+use Rattle.asp_clauses.proofs.BookLemmas.{Shrinks, Removes-from, kinds_still, firm_left, still_not_empty, clauses_kept, kinds_kept, relabelled_is, reason_within, new_number_small, marked_reasons, marks_many}
 use Rattle.asp_clauses.proofs.RenamedLemmas.{Goes-removed}
 use Rattle.asp_clauses.proofs.book.Book.remove.Goals as goal
 
@@ -48,24 +47,13 @@ compact-requires-clause-not_empty c =
     let marks = c.mark_reasons.new.stays in
     still_not_empty old unlinked numbered marks 0 c.self.invariant.0.store c.unlink_all.ensures.unlinked c.number_clauses.ensures
 
-pub count_firm-self-inside-requires : goal.count_firm-self-inside-requires
-count_firm-self-inside-requires c =
-    let old = c.self.inside.watches in let unlinked = c.unlink_all.new.self in let numbered = c.number_clauses.new.watches in
-    let marks = c.mark_reasons.new.stays in
-    let new = c.compact.new.watches in
-    let shrinks : Shrinks old unlinked numbered new marks 0 = record {
-      unlinked_is = c.unlink_all.ensures.unlinked;
-      numbered_is = c.number_clauses.ensures;
-      front = AllMarked-none marks;
-      many = marks_many old c.self.inside.kinds.items c.args.self.now c.args.stays.now c.keep_added.new.stays marks c.self.view_is c.requires.marks c.keep_added.ensures.as_many c.mark_reasons.ensures.as_many;
-      within = omega arith;
-      atoms = c.compact.ensures.atoms;
-      clauses = c.compact.ensures.clauses;
-      watched = c.compact.ensures.watched;
-    } in
-    let still = kinds_still old unlinked numbered new marks 0 c.self.inside.kinds.items c.compact.new.kinds.items c.self.invariant.1 shrinks c.compact.ensures.kinds in
-    let few = c.compact.ensures.watches.store.few in let e = ap length c.as_slice-2.ensures.value in
-    omega (arith, still, few, e)
+pub count_kept-firm-requires-clause-within : goal.count_kept-firm-requires-clause-within
+count_kept-firm-requires-clause-within c =
+    let a = c.number_clauses.ensures.as_many in let b = c.unlink_all.ensures.unlinked.as_many in
+    omega (arith, a, b, c.self.invariant.1, c.self.invariant.2)
+
+pub count_kept-firm-requires-clause-rows : goal.count_kept-firm-requires-clause-rows
+count_kept-firm-requires-clause-rows c = AreLong-store c.number_clauses.new.watches c.number_clauses.ensures.store
 
 pub invariant_of-self : goal.invariant_of-self
 invariant_of-self c =
@@ -82,10 +70,10 @@ invariant_of-self c =
       clauses = c.compact.ensures.clauses;
       watched = c.compact.ensures.watched;
     } in
-    let rest = c.compact.new.kinds.items in let firm = c.count_firm-self-inside.result in
-    let still = kinds_still old unlinked numbered new marks 0 c.self.inside.kinds.items rest c.self.invariant.1 shrinks c.compact.ensures.kinds in
-    let e = ap length c.as_slice-2.ensures.value in
-    (c.compact.ensures.watches, still, omega (arith, e, c.count_firm-self-inside.ensures.within), subst (λ (x : List Kind). AreFirmBelow x firm) c.as_slice-2.ensures.value c.count_firm-self-inside.ensures.firm)
+    let kinds = c.self.inside.kinds.items in let rest = c.compact.new.kinds.items in
+    let still = kinds_still old unlinked numbered new marks 0 kinds rest c.self.invariant.1 shrinks c.compact.ensures.kinds in
+    let firm = firm_left old unlinked numbered new marks 0 kinds rest c.self.inside.firm c.count_kept-firm.result c.self.invariant.1 shrinks c.compact.ensures.kinds c.self.invariant.2 c.self.invariant.3 c.count_kept-firm.ensures in
+    (c.compact.ensures.watches, still, firm.0, firm.1)
 
 pub returns-clause-clauses : goal.returns-clause-clauses
 returns-clause-clauses c =
