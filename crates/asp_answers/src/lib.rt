@@ -1,9 +1,9 @@
 //! The moves of a level, by a clause-learning search for candidates and a check of each.
 //!
 //! # Idea
-//! - The search has the clauses of the level's rules and of their completion. The outer move and the region are assumed; each
-//!   blocked cube is a clause that holds until the next question, each kept one a clause that stays. What it finds is a model of
-//!   the rules.
+//! - The search has the clauses of the level's rules, of their completion and of those bounds that a few clauses say. The outer move
+//!   and the region are assumed; each blocked cube is a clause that holds until the next question, each kept one a clause that stays.
+//!   What it finds is a model of the rules.
 //! - A candidate is a move exactly where it is an answer set with a free choice on each atom of the base below the
 //!   level. Where it isn't, some of its own atoms are unfounded, and these give a clause that every move satisfies and
 //!   the candidate doesn't. So the search goes on, with fewer candidates left.

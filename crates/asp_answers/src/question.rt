@@ -13,7 +13,7 @@ ghost use Rattle.asp_answers.specs.declared.work.Answered.TheVariants as answere
 
 use crate::work::{Answered, Work};
 use asp_bits::Bits;
-use asp_completion::{Level, add_completion, add_rules, push_literals};
+use asp_completion::{Level, add_bounds, add_completion, add_rules, push_literals};
 use asp_defs::{List, Lit, NoMemory};
 use asp_search::{Search, Stage};
 use std::alloc::Global;
@@ -82,7 +82,7 @@ fn begin_under(
     search.begin(alloc, assumed.as_slice())
 }
 
-/// Adds the clauses of the level's rules and of their completion to a new search.
+/// Adds the clauses of the level's rules, of their completion and of its bounds to a new search.
 fn fill(alloc: Global, level: &Level, search: &mut Search) -> Result<(), NoMemory>
     requires ready { IsLevel level.now }
     requires atoms { search.old.atoms ≡ length (upper level.now) }
@@ -91,10 +91,11 @@ fn fill(alloc: Global, level: &Level, search: &mut Search) -> Result<(), NoMemor
     ensures { OnOk result (IsFilled (game_at level.now) level.now.number (rules_at level.now) search.old search.new) }
 {
     add_rules(alloc, level, search)?;
-    add_completion(alloc, level, search)
+    add_completion(alloc, level, search)?;
+    add_bounds(alloc, level, search)
 }
 
-/// A search that has the clauses of the level's rules and of their completion.
+/// A search that has the clauses of the level's rules, of their completion and of its bounds.
 fn filled(alloc: Global, level: &Level, budget: u64) -> Result<Search, NoMemory>
     requires ready { IsLevel level.now }
     ensures { IfOk result (λ search. Serves level.now budget [] search) }

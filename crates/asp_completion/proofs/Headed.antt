@@ -88,6 +88,16 @@ completes-then l old mid new one two = record {
   firm = two.firm;
 }
 
+-- further clauses leave a search filled
+pub filled-then : (l : Level) (P : List ℕ → Type 0) (old mid new : SearchState) → IsFilled (game_at l) l.number (rules_at l) old mid
+    → Completes l P mid new → IsFilled (game_at l) l.number (rules_at l) old new
+filled-then l P old mid new one two = record {
+  atoms = two.atoms ∙ one.atoms;
+  budget = two.budget ∙ one.budget;
+  means = two.means;
+  firm = two.firm;
+}
+
 -- a clause of literals was added
 pub completes-clause : (l : Level) (P : List ℕ → Type 0) (old new : SearchState) (lits : List Lit) → HasRules l old
     → IsSoundClause (game_at l) l.number [] lits → ((N : List ℕ) → is_met N lits ≡ true → P N) → ((N : List ℕ) → P N → is_met N lits ≡ true)

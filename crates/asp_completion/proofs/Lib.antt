@@ -11,3 +11,5 @@ pub mod Linking
 pub mod Chaining
 pub mod Headed
 pub mod Distributing
+pub mod AtOnceLemmas
+pub mod BoundSteps

@@ -6,3 +6,4 @@ pub mod Says
 pub mod Supporters
 pub mod Chains
 pub mod Completions
+pub mod AtOnce

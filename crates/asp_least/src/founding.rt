@@ -77,12 +77,12 @@ fn found_all(
     Ok(())
 }
 
-/// The atoms of the part that no rules found one after another. A rule founds an atom where its body is true in `set`, the atom is
-/// the only true one of its head, and each atom of its positive body is founded or outside the part.
+/// Atoms of the part that stay when rules found others one after another: a rule founds an atom where its body is true in `set`, the
+/// atom is the only true one of its head, and each atom of its positive body is founded or outside the part.
 ///
-/// No set of atoms of the part is unfounded in `set` that has another one than those left. Where no rule has two true head atoms,
-/// what isn't left is the least model of the reduct and the atoms outside the part. The time is linear in the lengths of the rules
-/// and of the set. `NoMemory`: memory was refused.
+/// Promised is this of the answer (`AreLeft`): it lies in the part, and no set of atoms of the part that has another one than those
+/// left is unfounded in `set`. Not promised: that every atom that rules could found is founded. The time is linear in the lengths of
+/// the rules and of the set. `NoMemory`: memory was refused.
 pub fn left_unfounded(
     alloc: Global,
     rules: &[GroundRule],

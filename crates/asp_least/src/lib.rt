@@ -2,7 +2,7 @@
 //!
 //! # Idea
 //! - A rule founds an atom where its body is true, each atom of its positive body is founded or needs no foundation, and the atom is
-//!   the only true one of its head. What is founded so is the least model of the reduct as far as it needs no disjunction.
+//!   the only true one of its head. Founding is meant to go on until no rule founds more, but no contract says so.
 //! - A set with a founded atom is never unfounded: of its atoms the one that was founded first has a rule that supports the set. So an
 //!   interpretation all of whose atoms are founded is an answer set where it satisfies the rules, and else all that can leave it is
 //!   among the atoms that are left.
