@@ -1,11 +1,10 @@
 //! Cubes that are kept: the moves outside of them and the cores, where they are kept before the first question and behind one.
 
-ghost use Rattle.std.specs.Prelude.{◌≡◌, ◌≤◌, IfSome};
-ghost use Rattle.asp_defs.specs.Games.{IsValid, level_count};
-
-use crate::asked::{Listed, all_moves, answers, ask, keep, put, shared};
-use crate::questions::{base, literals};
-use crate::rows::{is_row, letters, region, sets};
+use crate::letters::{letters, region, sets};
+use crate::wanted::is_listed;
+use asked_moves::asked::{all_moves, ask, keep, put};
+use asked_moves::questions::{base, literals};
+use asked_moves::trials::{Trial, try_text};
 use asp_answers::Answers;
 use asp_defs::{Game, Lit};
 use asp_game::{Moves, Step};
@@ -46,78 +45,66 @@ const KEPT: [Kept; 10] = [
     (OUTER, 2, "ab", "", "", "-,b", "", "a"),
 ];
 
-/// Asks for all moves once where that is wanted.
-fn ask_if(
-    alloc: Global,
-    wanted: bool,
-    answers: &mut Answers,
-    game: &Game,
-    level: u32,
+/// A cube that is kept before the first question or behind it, and the moves and the core that are wanted of two further ones.
+#[derive(Drop)]
+struct Keeping {
     outer: u32,
-) -> Option<()>
-    requires valid { IsValid game.now }
-    requires first { 1 ≤ level }
-    requires last { level ≤ level_count game.now }
-    requires game { answers.old.moves.game ≡ game.now }
-    requires level { answers.old.moves.level ≡ level }
-    ensures game { IfSome result (λ asked. answers.new.moves.game ≡ game.now) }
-    ensures level { IfSome result (λ asked. answers.new.moves.level ≡ level) }
-{
-    if !wanted {
-        return Some(());
-    }
-    ask(alloc, answers, game, level, outer, &[])?;
-    Some(())
-}
-
-/// The answers to two questions, once the cube is kept.
-fn ask_twice(
-    alloc: Global,
-    answers: &mut Answers,
-    game: &Game,
-    level: u32,
-    outer: u32,
-    cube: &[Lit],
-) -> Option<(Listed, Listed)>
-    requires valid { IsValid game.now }
-    requires first { 1 ≤ level }
-    requires last { level ≤ level_count game.now }
-    requires game { answers.old.moves.game ≡ game.now }
-    requires level { answers.old.moves.level ≡ level }
-{
-    keep(alloc, answers, game, level, cube)?;
-    let first = ask(alloc, answers, game, level, outer, &[])?;
-    let second = ask(alloc, answers, game, level, outer, &[])?;
-    Some((first, second))
-}
-
-/// The answers to two questions about a text's level, where the cube is kept before them, behind a first question if so wanted.
-fn listed(
-    alloc: Global,
-    text: &str,
-    level: u32,
-    outer: u32,
-    cube: &[Lit],
+    cube: Vec<Lit>,
     late: bool,
-) -> Option<(Listed, Listed)> {
-    let game = shared(alloc, text)?;
-    if level == 0 || level as usize > game.quants.len() {
-        return None;
+    moves: Vec<u32>,
+    core: (u32, u32),
+}
+
+impl Trial for Keeping {
+    fn run(
+        &mut self,
+        alloc: Global,
+        answers: &mut Answers,
+        game: &Game,
+        level: u32,
+    ) -> Option<bool> {
+        let moves = self.moves.as_slice();
+        if self.late {
+            ask(alloc, answers, game, level, self.outer, &[])?;
+        }
+        keep(alloc, answers, game, level, self.cube.as_slice())?;
+        let first = is_listed(
+            alloc,
+            answers,
+            game,
+            level,
+            self.outer,
+            &[],
+            moves,
+            self.core,
+        )?;
+        let second = is_listed(
+            alloc,
+            answers,
+            game,
+            level,
+            self.outer,
+            &[],
+            moves,
+            self.core,
+        )?;
+        Some(first && second)
     }
-    let mut answers = answers(alloc, &game, level, 1000)?;
-    ask_if(alloc, late, &mut answers, &game, level, outer)?;
-    ask_twice(alloc, &mut answers, &game, level, outer, cube)
 }
 
 /// Whether both questions of a row have its answer.
 fn is_right(alloc: Global, row: &Kept, late: bool) -> Option<bool> {
     let (text, level, held, out, outer, moves, core_held, core_out) = *row;
     let cube = region(alloc, held, out).ok()?;
-    let sets = sets(alloc, moves).ok()?;
-    let (first, second) = listed(alloc, text, level, letters(outer), cube.as_slice(), late)?;
-    let held = letters(core_held);
-    let out = letters(core_out);
-    Some(is_row(&first, sets.as_slice(), held, out) && is_row(&second, sets.as_slice(), held, out))
+    let moves = sets(alloc, moves).ok()?;
+    let mut keeping = Keeping {
+        outer: letters(outer),
+        cube,
+        late,
+        moves,
+        core: (letters(core_held), letters(core_out)),
+    };
+    try_text(alloc, text, level, 1000, &mut keeping)
 }
 
 fn run_rows(alloc: Global, rows: &[Kept], late: bool) -> Result<(), Fail> {
@@ -138,34 +125,34 @@ fn a_cube_kept_between_questions_stays_left_out(rt: HostRuntime) -> Result<(), F
     run_rows(rt.alloc(), &KEPT, true)
 }
 
-/// Whether a move that is kept as soon as it is found is left out of the question and of the next one.
-fn keeps_found(alloc: Global, answers: &mut Answers, game: &Game) -> Option<bool>
-    requires valid { IsValid game.now }
-    requires last { 1 ≤ level_count game.now }
-    requires game { answers.old.moves.game ≡ game.now }
-    requires level { answers.old.moves.level ≡ 1 }
-{
-    put(alloc, answers, game, 1, 0, &[])?;
-    let Ok(Step::Found(set)) = answers.next(alloc) else {
-        return None;
-    };
-    let cube = literals(alloc, base(game, 1), &set).ok()?;
-    keep(alloc, answers, game, 1, cube.as_slice())?;
-    let rest = all_moves(alloc, answers, base(game, 1))?;
-    let again = ask(alloc, answers, game, 1, 0, &[])?;
-    Some(rest.moves.len() == 3 && again.moves.as_slice() == rest.moves.as_slice())
-}
+/// A move that is kept as soon as it is found is left out of the question and of the next one.
+#[derive(Drop)]
+struct KeptWhenFound;
 
-fn text_keeps_found(alloc: Global, text: &str) -> Option<bool> {
-    let game = shared(alloc, text)?;
-    if game.quants.len() == 0 {
-        return None;
+impl Trial for KeptWhenFound {
+    fn run(
+        &mut self,
+        alloc: Global,
+        answers: &mut Answers,
+        game: &Game,
+        level: u32,
+    ) -> Option<bool> {
+        put(alloc, answers, game, level, 0, &[])?;
+        let Ok(Step::Found(set)) = answers.next(alloc) else {
+            return None;
+        };
+        let cube = literals(alloc, base(game, level), &set).ok()?;
+        keep(alloc, answers, game, level, cube.as_slice())?;
+        let rest = all_moves(alloc, answers, base(game, level))?;
+        let again = ask(alloc, answers, game, level, 0, &[])?;
+        Some(rest.moves.len() == 3 && again.moves.as_slice() == rest.moves.as_slice())
     }
-    let mut answers = answers(alloc, &game, 1, 1000)?;
-    keeps_found(alloc, &mut answers, &game)
 }
 
 #[test]
 fn a_move_may_be_kept_when_found(rt: HostRuntime) -> Result<(), Fail> {
-    expect(text_keeps_found(rt.alloc(), TWO) == Some(true), TWO)
+    expect(
+        try_text(rt.alloc(), TWO, 1, 1000, &mut KeptWhenFound) == Some(true),
+        TWO,
+    )
 }

@@ -1,28 +1,28 @@
-//! Tests of the moves of a level, against sets and cores that were worked out by hand, and against the definitions over bits.
-//! Programs are written as texts; each atom is one letter.
+//! Tests of the moves of a level, against sets and cores that were worked out by hand. Programs are written as texts; each atom is
+//! one letter.
 //!
 //! | module | tests |
 //! |---|---|
-//! | `questions` | outer moves, regions and cubes, as the calls want them, for the next |
-//! | `asked` | the moves of a level as masks, and their core |
-//! | `rows` | levels whose moves were worked out by hand; budgets |
+//! | `letters` | sets and literals as letters, for the next |
+//! | `wanted` | what is wanted of a question, for the next |
+//! | `rows` | levels whose moves were worked out by hand |
+//! | `budgets` | budgets that are spent |
+//! | `nogoods` | how many nogoods are recorded |
+//! | `blocked` | cubes that are blocked until the next question |
 //! | `kept` | cubes that are kept |
-//! | `meaning` | what moves are, by the definitions |
-//! | `written` | texts of random levels |
-//! | `drawn` | the moves of random levels |
 #![tactic(auto)]
 
 #[cfg(test)]
-mod asked;
+mod blocked;
 #[cfg(test)]
-mod drawn;
+mod budgets;
 #[cfg(test)]
 mod kept;
 #[cfg(test)]
-mod meaning;
+mod letters;
 #[cfg(test)]
-mod questions;
+mod nogoods;
 #[cfg(test)]
 mod rows;
 #[cfg(test)]
-mod written;
+mod wanted;

@@ -1,7 +1,0 @@
-use Rattle.asp_bits.specs.Places.{true_places}
-use Rattle.moves_tests.specs.Asking.{IsCubeOf}
-use Rattle.moves_tests.proofs.questions.literals.Given as goal
-
--- the literals so far are true in the set, and on atoms of the base
-abbrev pub invariant-loop-atom : goal.invariant-loop-atom
-invariant-loop-atom l = IsCubeOf l.base (true_places l.set) l.cube.items

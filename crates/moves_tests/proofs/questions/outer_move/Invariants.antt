@@ -1,8 +1,0 @@
-use Rattle.std.proofs.Common.{◌≡◌, length}
-use Rattle.asp_bits.specs.Places.{true_places}
-use Rattle.moves_tests.specs.Asking.{IsWithin}
-use Rattle.moves_tests.proofs.questions.outer_move.Given as goal
-
--- atoms of the base below alone are true
-abbrev pub invariant-loop-place : goal.invariant-loop-place
-invariant-loop-place l = (length l.set ≡ length l.game.bases.atoms) × IsWithin (true_places l.set) l.lower
