@@ -1,0 +1,4 @@
+mod Filters
+mod Parts
+mod Finding
+mod Collecting
