@@ -1,5 +1,6 @@
 pub mod Writing
 pub mod Forms
+pub mod Members
 pub mod Shapes
 pub mod Lexing
 pub mod Numerals

@@ -39,6 +39,15 @@ nothing a held f = record {
   cause = record { later = search rules; kept = refl; failed = tt };
 }
 
+-- another answer to the same text
+pub answered : {T U E : Type 0} {a b : Option (List ℕ)} {d d' : List ℕ} {f g : ℕ} {t : List ℕ} {v : T} (w : U)
+    → Writes {T = T} {E = E} a b d d' f g (Ok v) t → Writes {T = U} {E = E} a b d d' f g (Ok w) t
+answered w h = record {
+  all = h.all;
+  prefix = tt;
+  cause = record { later = h.cause.later; kept = h.cause.kept; failed = tt };
+}
+
 -- the texts of two calls
 sends_both : (a b c : Option (List ℕ)) (d d' d'' t u : List ℕ) → Sends a b d d' t → Sends b c d' d'' u → Sends a c d d'' (t ++ u)
 sends_both a b c d d' d'' t u first second = record {

@@ -1,3 +1,4 @@
 pub mod Written
 pub mod LineTexts
+pub mod Members
 pub mod Laws

@@ -2,13 +2,14 @@
 ghost use Rattle.std.specs.Prelude.{List as Sequence, ℕ, ◌++◌, decimal};
 ghost use Rattle.std.specs.Fmt.{signed_decimal};
 ghost use Rattle.std.specs.List.{flat_map, join_by};
+ghost use Rattle.asp_defs.specs.Canonical.{applied_text};
 ghost use Rattle.asp_print.specs.Written.{Writes};
 
 use crate::buffer::{Buffer, print_bytes};
 use asp_defs::{List, Name};
 use asp_io::{Failed, Sink};
 
-/// A part of a program, which has one canonical text.
+/// A part of a program or of a set, which has one canonical text.
 pub(crate) trait Printed {
     /// The part's text.
     ghost text: { Self → Sequence ℕ };
@@ -115,4 +116,23 @@ fn print_led<T: Printed, K: Sink>(
         part.print(sink, buffer)?;
     }
     Ok(())
+}
+
+/// Writes the name, and the arguments behind it in parentheses, where there are any.
+pub(crate) fn print_applied<T: Printed, K: Sink>(
+    sink: &mut K,
+    buffer: &mut Buffer,
+    name: &Name,
+    args: &List<T>,
+) -> Result<(), Failed>
+    ensures { Writes (K.taken sink.old) (K.taken sink.new) buffer.old.items buffer.new.items (K.faults sink.old) (K.faults sink.new)
+        result (applied_text T.text name.now args.now) }
+{
+    print_name(sink, buffer, name)?;
+    if args.is_empty() {
+        return Ok(());
+    }
+    print_bytes(sink, buffer, b"(")?;
+    print_joined(sink, buffer, b",", args)?;
+    print_bytes(sink, buffer, b")")
 }

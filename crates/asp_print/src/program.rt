@@ -9,7 +9,7 @@ ghost use Rattle.asp_defs.specs.Canonical.{program_text, constraint_part_text, h
 ghost use Rattle.asp_print.specs.Written.{Writes};
 
 use crate::buffer::{Buffer, flush, print_bytes};
-use crate::pieces::{Printed, print_each, print_integer, print_joined, print_name};
+use crate::pieces::{Printed, print_applied, print_each, print_integer, print_joined, print_name};
 use asp_defs::{Atom, Element, Head, List, Literal, Op, Part, Program, Quant, Rule, Term};
 use asp_io::{Failed, Sink};
 
@@ -272,13 +272,7 @@ impl Printed for Atom {
     ghost text = { atom_text };
 
     fn print<K: Sink>(&self, sink: &mut K, buffer: &mut Buffer) -> Result<(), Failed> {
-        print_name(sink, buffer, &self.name)?;
-        if self.args.is_empty() {
-            return Ok(());
-        }
-        print_bytes(sink, buffer, b"(")?;
-        print_joined(sink, buffer, b",", &self.args)?;
-        print_bytes(sink, buffer, b")")
+        print_applied(sink, buffer, &self.name, &self.args)
     }
 }
 

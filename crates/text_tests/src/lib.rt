@@ -1,7 +1,7 @@
 //! Tests of the public calls on texts: cutting them into tokens, reading, checking and printing.
 //!
 //! In reading order: `texts` (texts that are made of parts), `forms` (programs in one form), and then `lexing`, `reading`,
-//! `checking` and `printing`, with a table for each kind of row.
+//! `checking`, `printing` and `sets`, with a table for each kind of row.
 #![tactic(auto)]
 
 #[cfg(test)]
@@ -14,5 +14,7 @@ mod lexing;
 mod printing;
 #[cfg(test)]
 mod reading;
+#[cfg(test)]
+mod sets;
 #[cfg(test)]
 mod texts;

@@ -1,7 +1,7 @@
 //! Printing programs and lines, against texts that were written by hand.
 ghost use Rattle.std.specs.Prelude.{◌<◌};
 
-use crate::texts::{program_of, repeated};
+use crate::texts::{front_of, program_of, repeated};
 use asp_defs::{Kind, List, Name, NoMemory, Program, Unknown, Var, Which};
 use asp_io::MemSink;
 use asp_print::{Line, print_line, print_program};
@@ -69,15 +69,6 @@ const BUDGETS: [(Kind, u32, u64, &str); 4] = [
     (Kind::Minimal, 17, 500, "UNKNOWN minimal 17 500\n"),
     (Kind::Store, 2, 20_000_000, "UNKNOWN store 2 20000000\n"),
 ];
-
-/// How many bytes were taken, if they are a front of the expected ones, and all of them exactly where no call failed.
-fn front_of(expected: &[u8], taken: &[u8], is_whole: bool) -> Option<usize> {
-    if expected.starts_with(taken) && is_whole == (taken.len() == expected.len()) {
-        Some(taken.len())
-    } else {
-        None
-    }
-}
 
 /// Whether what is printed of a line is this text.
 fn prints(alloc: Global, line: &Line, expected: &str) -> Result<bool, NoMemory> {

@@ -59,3 +59,12 @@ pub fn shown(name: &Name) -> &str {
 pub fn expect(rt: &impl Abort, row: &str, given: &str, expected: &str) {
     assert!(rt; given == expected, "{row}: {given}");
 }
+
+/// How many bytes were taken, if they are a front of the expected ones, and all of them exactly where no call failed.
+pub fn front_of(expected: &[u8], taken: &[u8], is_whole: bool) -> Option<usize> {
+    if expected.starts_with(taken) && is_whole == (taken.len() == expected.len()) {
+        Some(taken.len())
+    } else {
+        None
+    }
+}

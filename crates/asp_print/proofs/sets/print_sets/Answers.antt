@@ -1,0 +1,13 @@
+use Rattle.std.proofs.Common.{refl}
+use Rattle.asp_print.proofs.Writing.{behind, failed, as_held, sent_whole, sent_part}
+use Rattle.asp_print.proofs.sets.print_sets.Goals as goal
+
+pub returns-in_err-print_lines : goal.returns-in_err-print_lines
+returns-in_err-print_lines g c =
+    let printed = sent_part _ c.from_residual.ensures.0 (failed _ c.from_residual.ensures.0 (as_held c.new-buffer.ensures refl c.in_err-print_lines.ensures)) in
+    record { all = printed.all; prefix = printed.prefix; cause = printed.cause }
+
+pub returns : goal.returns
+returns g c =
+    let printed = sent_whole _ (behind (as_held c.new-buffer.ensures refl c.in_ok-print_lines.ensures) (as_held refl c.flush.ensures.empty c.flush.ensures.text)) in
+    record { all = printed.all; prefix = printed.prefix; cause = printed.cause }
