@@ -1,7 +1,12 @@
 pub mod Taken
 pub mod Refusals
 pub mod Solved
+pub mod Deciding
+pub mod Steps
+pub mod Wider
 pub mod Reading
+pub mod OptionSteps
+pub mod Numerals
 pub mod Answering
 pub mod Written
 pub mod Unique

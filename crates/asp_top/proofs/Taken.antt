@@ -10,10 +10,10 @@ use Rattle.asp_defs.specs.Runs.{most_read, TooLong, NoText, FailedCheck, LargeGa
 use Rattle.asp_io.specs.Moved.{TakesFirst}
 use Rattle.asp_top.specs.declared.words.Command.{Command}
 use Rattle.asp_top.specs.declared.answer.Answer.{Answer}
-use Rattle.asp_top.specs.declared.answer.Answer.TheVariants.{Refused, Accepted, NotYet, Verdict}
+use Rattle.asp_top.specs.declared.answer.Answer.TheVariants.{Refused, Accepted, Verdict, Unknown}
 use Rattle.asp_print.specs.LineTexts.{line_text}
 use Rattle.asp_top.specs.Answers.{IsRefusedWith}
-use Rattle.asp_top.specs.Replies.{IsRight}
+use Rattle.asp_top.specs.Replies.{IsSolvedText, IsRight}
 
 -- the bytes that were taken, where the source tells what it had
 pub taken_first : (before now : Option (List ℕ)) (most : ℕ) (taken bytes : List ℕ)
@@ -76,17 +76,12 @@ module _ (bytes taken : List ℕ) (first : taken ≡ take most_read bytes) where
   refused_whole output (LargeGame p which count short text passes large is) =
       subst (λ bs. IsRefusedWith bs output) (all_unless short) (LargeGame p which count short text passes large is)
 
+  solved_whole : (command : Command) (answer : Answer) → IsSolvedText command taken answer → IsSolvedText command bytes answer
+  solved_whole command answer (tuning, p, is, text, solved) = (tuning, p, is, accepted_whole p text, solved)
+
   -- what is right of the bytes that were taken is right of all
   pub right_of_all : (command : Command) (answer : Answer) → IsRight command taken answer → IsRight command bytes answer
   right_of_all command (Refused line) h = refused_whole (line_text line) h
   right_of_all command (Accepted p) (is, text) = (is, accepted_whole p text)
-  right_of_all command NotYet (is, (p, text, more)) = (is, (p, accepted_whole p text, more))
-  right_of_all command (Verdict verdict) (is, h) = (
-    is,
-    record {
-      program = h.program;
-      text = accepted_whole h.program h.text;
-      few = h.few;
-      coherent = h.coherent;
-    },
-  )
+  right_of_all command (Verdict verdict t) h = solved_whole command (Verdict verdict t) h
+  right_of_all command (Unknown u t) h = solved_whole command (Unknown u t) h

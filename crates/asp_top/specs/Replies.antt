@@ -1,11 +1,12 @@
 -- What a run says of a text, by the faults of the crates below and by the command. All definitions are transparent.
-use Rattle.std.specs.Prelude.{◌≡◌, ℕ, true, false, List}
+use Rattle.std.specs.Prelude.{◌≡◌, ℕ, true, false, Option, Some, None, List}
 use Rattle.asp_defs.specs.declared.faults.TextFault.{TextFault}
 use Rattle.asp_defs.specs.declared.faults.TextFault.TheVariants as text
 use Rattle.asp_defs.specs.declared.faults.SizeFault.{SizeFault}
 use Rattle.asp_defs.specs.declared.faults.SizeFault.TheVariants as size
 use Rattle.asp_defs.specs.Sizes.{IsAccepted}
-use Rattle.asp_defs.specs.Lines.{coherent_line, incoherent_line}
+use Rattle.asp_defs.specs.declared.syntax.Program.{Program}
+use Rattle.asp_defs.specs.Lines.{coherent_line, incoherent_line, unknown_line}
 use Rattle.asp_defs.specs.Canonical.{program_text}
 use Rattle.asp_check.specs.declared.checks.CheckFault.{CheckFault}
 use Rattle.asp_check.specs.declared.checks.CheckFault.TheVariants as check
@@ -13,13 +14,18 @@ use Rattle.asp_print.specs.declared.line.Line.TheVariants as line
 use Rattle.asp_print.specs.LineTexts.{line_text}
 use Rattle.asp_top.specs.declared.refusal.Refusal.{Refusal}
 use Rattle.asp_top.specs.declared.refusal.Refusal.TheVariants as refusal
+use Rattle.asp_top.specs.declared.status.Ended.{Ended}
+use Rattle.asp_top.specs.declared.status.Used.{Used}
+use Rattle.asp_top.specs.declared.status.Used.TheVariants.{Single}
 use Rattle.asp_top.specs.declared.status.Status.{Status}
 use Rattle.asp_top.specs.declared.status.Status.TheVariants as status
+use Rattle.asp_top.specs.declared.words.Tuning.{Tuning}
 use Rattle.asp_top.specs.declared.words.Command.{Command}
 use Rattle.asp_top.specs.declared.words.Command.TheVariants.{Solve, Check}
 use Rattle.asp_top.specs.declared.answer.Answer.{Answer}
-use Rattle.asp_top.specs.declared.answer.Answer.TheVariants.{Refused, Accepted, NotYet, Verdict}
-use Rattle.asp_top.specs.Answers.{IsRefusedWith, HasVerdict, IsNotYet, not_yet_line}
+use Rattle.asp_top.specs.declared.answer.Answer.TheVariants.{Refused, Accepted, Verdict, Unknown}
+use Rattle.asp_top.specs.Answers.{IsRefusedWith}
+use Rattle.asp_top.specs.Solved.{IsSolved}
 
 -- the refusal that a fault of the reader is, that a fault of the checks is, and that a fault for a game's size is
 abbrev pub refusal_of_text : TextFault → Refusal
@@ -52,20 +58,38 @@ IsRefusedSo bytes refusal.NoMemory = Unit {0}
 abbrev pub status_of : Answer → Status
 status_of (Refused line) = status.Text
 status_of (Accepted p) = status.Done
-status_of NotYet = status.Text
-status_of (Verdict true) = status.Coherent
-status_of (Verdict false) = status.Incoherent
+status_of (Verdict true t) = status.Coherent
+status_of (Verdict false t) = status.Incoherent
+status_of (Unknown u t) = status.Unknown
+
+abbrev pub used_of : Answer → Option Used
+used_of (Refused line) = None
+used_of (Accepted p) = None
+used_of (Verdict verdict t) = Some (Single t)
+used_of (Unknown u t) = Some (Single t)
+
+-- how a run ends that says all that there is to say, and one that says nothing of a game
+abbrev pub ended_of : Answer → Ended
+ended_of answer = record { status = status_of answer; used = used_of answer }
+
+abbrev pub ended_by : Status → Ended
+ended_by status = record { status = status; used = None }
 
 abbrev pub text_of : Answer → List ℕ
 text_of (Refused line) = line_text line
 text_of (Accepted p) = program_text p
-text_of NotYet = not_yet_line
-text_of (Verdict true) = coherent_line
-text_of (Verdict false) = incoherent_line
+text_of (Verdict true t) = coherent_line
+text_of (Verdict false t) = incoherent_line
+text_of (Unknown u t) = unknown_line u
+
+-- bytes are an accepted text, of whose program what is said is right
+abbrev pub IsSolvedText : Command → List ℕ → Answer → Type 0
+IsSolvedText command bytes answer =
+    (tuning : Tuning) × (p : Program) × (command ≡ Solve tuning) × IsAccepted bytes p × IsSolved tuning p answer
 
 -- what a command says of the bytes is right
 abbrev pub IsRight : Command → List ℕ → Answer → Type 0
 IsRight command bytes (Refused line) = IsRefusedWith bytes (line_text line)
 IsRight command bytes (Accepted p) = (command ≡ Check) × IsAccepted bytes p
-IsRight command bytes NotYet = (command ≡ Solve) × IsNotYet bytes
-IsRight command bytes (Verdict verdict) = (command ≡ Solve) × HasVerdict bytes verdict
+IsRight command bytes (Verdict verdict t) = IsSolvedText command bytes (Verdict verdict t)
+IsRight command bytes (Unknown u t) = IsSolvedText command bytes (Unknown u t)

@@ -26,3 +26,15 @@ is_answered Text = true
 is_answered Read = false
 is_answered Write = false
 is_answered Memory = false
+
+-- whether a run that ends so has a verdict, or a question that stays open
+abbrev pub is_solved : Status → Bool
+is_solved Coherent = true
+is_solved Incoherent = true
+is_solved Unknown = true
+is_solved Done = false
+is_solved Words = false
+is_solved Text = false
+is_solved Read = false
+is_solved Write = false
+is_solved Memory = false

@@ -5,12 +5,14 @@ ghost use Rattle.asp_defs.specs.Lines.{word_line};
 ghost use Rattle.asp_io.specs.Causes.{HasCause};
 ghost use Rattle.asp_io.specs.Moved.{AppendsPrefix};
 ghost use Rattle.asp_top.specs.Outputs.{EndsSo};
-ghost use Rattle.asp_top.specs.Replies.{text_of, status_of};
+ghost use Rattle.asp_top.specs.Replies.{text_of, status_of, used_of, ended_of, ended_by};
 
-use crate::status::Status;
+use crate::status::{Ended, Status, Used};
 use asp_check::Checked;
-use asp_io::{Failed, Sink, write_all};
+use asp_defs::Unknown;
+use asp_io::{Failed, Sink};
 use asp_print::{Line, print_line, print_program};
+use asp_team::Single;
 
 /// What a command has to say of a text.
 #[derive(Drop)]
@@ -19,10 +21,10 @@ pub enum Answer {
     Refused(Line),
     /// The program that passed the checks.
     Accepted(Checked),
-    /// The program passed the checks, and isn't one that is solved yet.
-    NotYet,
-    /// Whether the program is coherent.
-    Verdict(bool),
+    /// Whether the program is coherent, and what showed it.
+    Verdict(bool, Single),
+    /// Why it stays open whether the program is coherent, and what showed it.
+    Unknown(Unknown, Single),
 }
 
 impl Answer {
@@ -33,9 +35,21 @@ impl Answer {
         match self {
             Answer::Refused(_) => Status::Text,
             Answer::Accepted(_) => Status::Done,
-            Answer::NotYet => Status::Text,
-            Answer::Verdict(true) => Status::Coherent,
-            Answer::Verdict(false) => Status::Incoherent,
+            Answer::Verdict(true, _) => Status::Coherent,
+            Answer::Verdict(false, _) => Status::Incoherent,
+            Answer::Unknown(_, _) => Status::Unknown,
+        }
+    }
+
+    /// What the run solved with.
+    fn used(self) -> Option<Used>
+        ensures { result ≡ used_of self }
+    {
+        match self {
+            Answer::Refused(_) => None,
+            Answer::Accepted(_) => None,
+            Answer::Verdict(_, team) => Some(Used::Single(team)),
+            Answer::Unknown(_, team) => Some(Used::Single(team)),
         }
     }
 
@@ -48,31 +62,43 @@ impl Answer {
         match self {
             Answer::Refused(line) => print_line(sink, line),
             Answer::Accepted(checked) => print_program(sink, checked.program()),
-            Answer::NotYet => write_all(sink, b"aspq: not yet\n"),
-            Answer::Verdict(true) => print_line(sink, &Line::Coherent),
-            Answer::Verdict(false) => print_line(sink, &Line::Incoherent),
+            Answer::Verdict(true, _) => print_line(sink, &Line::Coherent),
+            Answer::Verdict(false, _) => print_line(sink, &Line::Incoherent),
+            Answer::Unknown(unknown, _) => print_line(sink, &Line::Unknown(*unknown)),
         }
     }
 }
 
 /// Writes the answer, and tells how the run ends: as the answer says, or with the sink's fault.
-pub fn say<K: Sink>(sink: &mut K, answer: &Answer) -> Status
+pub fn say<K: Sink>(sink: &mut K, answer: Answer) -> Ended
     ensures { EndsSo (K.taken sink.old) (K.taken sink.new) (K.faults sink.old) (K.faults sink.new)
-        result (status_of answer.now) (text_of answer.now) }
+        result (ended_of answer) (text_of answer) }
 {
     match answer.print(sink) {
-        Ok(()) => answer.status(),
-        Err(_) => Status::Write,
+        Ok(()) => Ended {
+            status: answer.status(),
+            used: answer.used(),
+        },
+        Err(_) => Ended {
+            status: Status::Write,
+            used: None,
+        },
     }
 }
 
 /// Writes that the word at that place, from 1, can't be read, and tells how the run ends.
-pub fn refuse_word<K: Sink>(sink: &mut K, place: u32) -> Status
+pub fn refuse_word<K: Sink>(sink: &mut K, place: u32) -> Ended
     ensures { EndsSo (K.taken sink.old) (K.taken sink.new) (K.faults sink.old) (K.faults sink.new)
-        result Status.Words (word_line place) }
+        result (ended_by Status.Words) (word_line place) }
 {
     match print_line(sink, &Line::Word(place)) {
-        Ok(()) => Status::Words,
-        Err(_) => Status::Write,
+        Ok(()) => Ended {
+            status: Status::Words,
+            used: None,
+        },
+        Err(_) => Ended {
+            status: Status::Write,
+            used: None,
+        },
     }
 }

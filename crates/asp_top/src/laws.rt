@@ -1,5 +1,5 @@
 //! Laws of the answers of runs: each contract is one, and each body is empty.
-ghost use Rattle.asp_top.specs.Laws.{WordsAgree, AnswersExist, RefusalsAreUnique, DoneIsUnique, OneStatus, OneOutput};
+ghost use Rattle.asp_top.specs.Laws.{WordsAgree, AnswersExist, RefusalsAreUnique, DoneIsUnique, OneStatus, OneOutput, EnoughSettles};
 
 /// Words that are served ask for the task that the definition of words has for them, and where that refuses a word, the same
 /// word is refused or one before it.
@@ -19,4 +19,10 @@ pub fn answers_are_unique()
     ensures done { DoneIsUnique }
     ensures statuses { OneStatus }
     ensures outputs { OneOutput }
+{}
+
+/// Where each search may place as many literals as it can at most, and the history may take all cells that it can, no
+/// answer to an accepted text is open.
+pub fn enough_settles()
+    ensures { EnoughSettles }
 {}

@@ -3,6 +3,7 @@ ghost use Rattle.std.specs.Prelude.{◌≡◌, ◌≤◌, ◌+◌, ℕ, List, So
 ghost use Rattle.asp_defs.specs.Runs.{most_read};
 ghost use Rattle.asp_defs.specs.Sizes.{IsAccepted};
 ghost use Rattle.asp_io.specs.Causes.{Rose};
+ghost use Rattle.asp_top.specs.Commands.{IsWithin};
 ghost use Rattle.asp_top.specs.Replies.{IsRight};
 ghost use Rattle.asp_top.specs.Solved.{IsMeasured};
 
@@ -25,6 +26,7 @@ pub fn answer<S: Source>(
     command: Command,
     source: &mut S,
 ) -> Result<Answer, ReadFault>
+    requires { IsWithin command }
     ensures right { IfOk result (λ answer. (bytes : List ℕ) → S.left source.old ≡ Some bytes
         → IsRight command bytes answer) }
     ensures right_of_some { IfOk result (λ answer. (bytes : List ℕ) × IsRight command bytes answer) }
@@ -41,6 +43,7 @@ pub fn answer<S: Source>(
 
 /// What the command has to say of the bytes.
 fn reply(alloc: Global, command: Command, bytes: Vec<u8>) -> Result<Answer, AllocError>
+    requires { IsWithin command }
     ensures { IfOk result (IsRight command bytes.items) }
 {
     match accept(alloc, bytes) {
@@ -52,12 +55,13 @@ fn reply(alloc: Global, command: Command, bytes: Vec<u8>) -> Result<Answer, Allo
 
 /// What the command has to say of an accepted text's program.
 fn serve(alloc: Global, command: Command, accepted: Accepted) -> Result<Answer, AllocError>
-    requires { IsMeasured accepted }
+    requires within { IsWithin command }
+    requires measured { IsMeasured accepted }
     ensures { IfOk result (λ answer. (bytes : List ℕ) → IsAccepted bytes accepted.checked
         → IsRight command bytes answer) }
 {
     match command {
         Command::Check => Ok(Answer::Accepted(accepted.checked)),
-        Command::Solve => solve(alloc, accepted),
+        Command::Solve(tuning) => solve(alloc, accepted, tuning),
     }
 }

@@ -4,8 +4,9 @@ ghost use Rattle.asp_defs.specs.Words.{Task};
 ghost use Rattle.asp_defs.specs.Runs.{reads_bytes, most_read};
 ghost use Rattle.asp_io.specs.Causes.{Rose};
 ghost use Rattle.asp_top.specs.Commands.{served_task, refused_word};
-ghost use Rattle.asp_top.specs.Outputs.{SaysAnswer, BeginsAnswer, RefusesWord};
-ghost use Rattle.asp_top.specs.Statuses.{is_answered};
+ghost use Rattle.asp_top.specs.declared.status.Used.{Used};
+ghost use Rattle.asp_top.specs.Outputs.{SaysAnswer, ShowsAnswer, BeginsAnswer, RefusesWord};
+ghost use Rattle.asp_top.specs.Statuses.{is_answered, is_solved};
 
 use crate::answer::{refuse_word, say};
 use crate::reply::answer;
@@ -32,6 +33,15 @@ pub fn run_single<S: Source, K: Sink>(
     // Whether or not the source tells its bytes, there are some of which that holds.
     ensures answer_to_some { IsTrue (is_answered result.status) → (bytes : List ℕ)
         × SaysAnswer (map string_bytes words.now) bytes result (K.taken sink.old) (K.taken sink.new) }
+
+    // What the run solved with is handed out exactly where there is a verdict or the question stays open, and it is the
+    // evidence of what is said.
+    ensures used { IsTrue (is_solved result.status) → IsSome result.used }
+    ensures used_only { IsSome result.used → IsTrue (is_solved result.status) }
+    ensures evidence { (used : Used) → result.used ≡ Some used → (bytes : List ℕ) → S.left source.old ≡ Some bytes
+        → ShowsAnswer (map string_bytes words.now) bytes result used (K.taken sink.old) (K.taken sink.new) }
+    ensures evidence_of_some { (used : Used) → result.used ≡ Some used → (bytes : List ℕ)
+        × ShowsAnswer (map string_bytes words.now) bytes result used (K.taken sink.old) (K.taken sink.new) }
 
     // Words that can't be read are refused, whatever the source is, and no others are. Out of memory is free here, but what
     // is served today reads words without any.
@@ -63,13 +73,18 @@ pub fn run_single<S: Source, K: Sink>(
     ensures part_of_some { result.status ≡ Status.Write → (bytes : List ℕ)
         × BeginsAnswer (map string_bytes words.now) bytes (K.taken sink.old) (K.taken sink.new) }
 {
-    let status = match command_of(words) {
+    match command_of(words) {
         Err(place) => refuse_word(sink, place),
         Ok(command) => match answer(alloc, command, source) {
-            Ok(answer) => say(sink, &answer),
-            Err(ReadFault::Failed) => Status::Read,
-            Err(ReadFault::NoMemory) => Status::Memory,
+            Ok(answer) => say(sink, answer),
+            Err(ReadFault::Failed) => Ended {
+                status: Status::Read,
+                used: None,
+            },
+            Err(ReadFault::NoMemory) => Ended {
+                status: Status::Memory,
+                used: None,
+            },
         },
-    };
-    Ended { status }
+    }
 }

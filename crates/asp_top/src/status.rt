@@ -2,6 +2,8 @@
 ghost use Rattle.std.specs.Prelude.{◌≡◌};
 ghost use Rattle.asp_top.specs.Statuses.{code_of};
 
+use asp_team::Single;
+
 /// What a run came to.
 #[derive(Debug, Clone, Copy, PartialEq, Eq)]
 pub enum Status {
@@ -44,9 +46,18 @@ impl Status {
     }
 }
 
+/// What a run solved with.
+#[derive(Drop)]
+pub enum Used {
+    /// A history with one worker for each level.
+    Single(Single),
+}
+
 /// The end of a run.
-#[derive(Debug, Drop)]
+#[derive(Drop)]
 pub struct Ended {
     /// What the run came to.
     pub status: Status,
+    /// What it solved with, where there is a verdict or the question stays open.
+    pub used: Option<Used>,
 }

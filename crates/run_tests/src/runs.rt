@@ -101,11 +101,16 @@ fn verdict(coherent: bool) -> (&'static [u8], u8) {
     }
 }
 
+/// Runs `solve` over a text, and compares with whether its program is coherent.
+pub fn check_verdict(alloc: Global, text: &str, coherent: bool) -> Result<(), Fail> {
+    let expected = verdict(coherent);
+    check_run(alloc, "solve", text.as_bytes(), 60_000, expected, text)
+}
+
 /// Runs `solve` over each text, and compares with whether its program is coherent.
 pub fn solve_rows(alloc: Global, rows: &[(&str, bool)]) -> Result<(), Fail> {
     for (text, coherent) in rows {
-        let expected = verdict(*coherent);
-        check_run(alloc, "solve", text.as_bytes(), 60_000, expected, text)?;
+        check_verdict(alloc, text, *coherent)?;
     }
     Ok(())
 }

@@ -2,22 +2,21 @@
 use crate::runs::{Row, refuse_rows, run_rows};
 use std::test::Fail;
 
-/// Counts up to a limit: `check` prints the program, and `solve` has no answer yet.
-const KEPT: [Row; 8] = [
+/// Counts up to a limit: `check` prints the program, and `solve` answers it.
+const KEPT: [Row; 7] = [
     (
         "check",
         "%@exists p(1..4096).",
         "%@exists\np(1..4096).\n",
         0,
     ),
-    ("solve", "%@exists p(1..4096).", "aspq: not yet\n", 3),
+    ("solve", "%@exists p(1..200).", "COHERENT\n", 10),
     (
         "check",
         "%@exists p(1..512,1).",
         "%@exists\np(1..512,1).\n",
         0,
     ),
-    ("solve", "%@exists p(1..512,1).", "aspq: not yet\n", 3),
     (
         "check",
         "%@exists p(1..1999). :- p(X), p(Y). :- p(X). a.",
@@ -26,9 +25,9 @@ const KEPT: [Row; 8] = [
     ),
     (
         "solve",
-        "%@exists p(1..1999). :- p(X), p(Y). :- p(X). a.",
-        "aspq: not yet\n",
-        3,
+        "%@exists p(1..199). :- p(X), p(Y). :- p(X). a.",
+        "INCOHERENT\n",
+        20,
     ),
     (
         "check",

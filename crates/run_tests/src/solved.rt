@@ -1,9 +1,9 @@
-//! Verdicts on programs of few atoms, as they were found by hand, and what isn't solved yet.
+//! Verdicts, as they were found by hand.
 use crate::runs::{Row, run_rows};
 use std::test::Fail;
 
-/// Programs of one existential level for the most part, with 20 atoms and with 21 of the last base.
-const SOLVED: [Row; 36] = [
+/// Programs of one existential level for the most part.
+const SOLVED: [Row; 39] = [
     (
         "solve",
         "%@exists\na :- not b.\nb :- not a.\n",
@@ -11,6 +11,24 @@ const SOLVED: [Row; 36] = [
         10,
     ),
     ("solve", "%@exists\na :- not a.\n", "INCOHERENT\n", 20),
+    (
+        "solve",
+        "%@exists\n{a}.\n%@constraint\n:- not a.\n",
+        "COHERENT\n",
+        10,
+    ),
+    (
+        "solve",
+        "%@forall\na :- not a.\n%@constraint\n:- not b.\n",
+        "COHERENT\n",
+        10,
+    ),
+    (
+        "solve",
+        "%@exists\np(1).\n%@exists\np(2).\n%@constraint\n:- not p(2).\n",
+        "COHERENT\n",
+        10,
+    ),
     (
         "solve",
         "%@exists\np :- not q.\n:- p.\n",
@@ -49,12 +67,12 @@ const SOLVED: [Row; 36] = [
     (
         "solve",
         "%@exists a.b.c.d.e.f.g.h.i.j.k.l.m.n.o.p.q.r.s.t.u.",
-        "aspq: not yet\n",
-        3,
+        "COHERENT\n",
+        10,
     ),
     ("solve", "%@exists p(1..20).", "COHERENT\n", 10),
-    ("solve", "%@exists p(1..21).", "aspq: not yet\n", 3),
-    // The last base counts, which has the atoms of the constraint part too.
+    ("solve", "%@exists p(1..21).", "COHERENT\n", 10),
+    // The last base has the atoms of the constraint part too.
     (
         "solve",
         "%@exists p(1..19). %@constraint :- p(20).",
@@ -63,9 +81,9 @@ const SOLVED: [Row; 36] = [
     ),
     (
         "solve",
-        "%@exists p(1..20). %@constraint :- p(21).",
-        "aspq: not yet\n",
-        3,
+        "%@exists p(1..20). %@constraint :- p(20).",
+        "INCOHERENT\n",
+        20,
     ),
     (
         "solve",
@@ -128,6 +146,144 @@ const SOLVED: [Row; 36] = [
     ("solve", "%@exists a", "aspq: unfinished\n", 3),
     ("solve", "%@exists a.\0", "aspq: bad byte at 11\n", 3),
 ];
+
+/// Texts of some hundred or thousand atoms.
+const MANY: [Row; 4] = [
+    ("solve", "%@exists p(1..64,1..4).", "COHERENT\n", 10),
+    (
+        "solve",
+        "%@exists p(1..100). {q(X) : p(X)}. :- q(X). :- p(X), not q(X).",
+        "INCOHERENT\n",
+        20,
+    ),
+    (
+        "solve",
+        "%@exists p(1..50). 1 {q(X) : p(X)} 1. :- q(X), X < 50.",
+        "COHERENT\n",
+        10,
+    ),
+    (
+        "solve",
+        "%@forall p(1..6). {q(X) : p(X)}.\n%@exists {r(X)} :- p(X). :- r(X), q(X). :- p(X), not r(X), not q(X).\n",
+        "COHERENT\n",
+        10,
+    ),
+];
+
+/// Texts of 16 levels, in which each existential level but the first repeats the choice before it.
+const SIXTEEN: [Row; 2] = [
+    (
+        "solve",
+        "%@exists {a}. %@forall {b}. %@exists {c}. :- b, not c. :- c, not b. %@forall {d}. %@exists {e}. :- d, not e. :- e, not d. %@forall {f}. %@exists {g}. :- f, not g. :- g, not f. %@forall {h}. %@exists {i}. :- h, not i. :- i, not h. %@forall {j}. %@exists {k}. :- j, not k. :- k, not j. %@forall {l}. %@exists {m}. :- l, not m. :- m, not l. %@forall {n}. %@exists {o}. :- n, not o. :- o, not n. %@forall {p}. %@constraint :- not a. :- b, not c. :- n, not o.",
+        "COHERENT\n",
+        10,
+    ),
+    (
+        "solve",
+        "%@exists {a}. %@forall {b}. %@exists {c}. :- b, not c. :- c, not b. %@forall {d}. %@exists {e}. :- d, not e. :- e, not d. %@forall {f}. %@exists {g}. :- f, not g. :- g, not f. %@forall {h}. %@exists {i}. :- h, not i. :- i, not h. %@forall {j}. %@exists {k}. :- j, not k. :- k, not j. %@forall {l}. %@exists {m}. :- l, not m. :- m, not l. %@forall {n}. %@exists {o}. :- n, not o. :- o, not n. %@forall {p}. %@constraint :- not a. :- b, not c. :- p, a.",
+        "INCOHERENT\n",
+        20,
+    ),
+];
+
+/// Budgets and cells that don't suffice, and the least that do.
+const SPENT: [Row; 18] = [
+    (
+        "solve --budget=1",
+        "%@exists {a;b}. :- not a, not b. :- a, b.",
+        "UNKNOWN search 1 1\n",
+        30,
+    ),
+    (
+        "solve --budget=9",
+        "%@exists {a;b}. :- not a, not b. :- a, b.",
+        "COHERENT\n",
+        10,
+    ),
+    (
+        "solve --budget 9",
+        "%@exists {a;b}. :- not a. :- not b. :- a, b.",
+        "INCOHERENT\n",
+        20,
+    ),
+    (
+        "solve --budget=1",
+        "%@exists {a;b}.",
+        "UNKNOWN search 1 1\n",
+        30,
+    ),
+    ("solve --budget=2", "%@exists {a;b}.", "COHERENT\n", 10),
+    ("solve --budget=9", "%@exists {a;b}.", "COHERENT\n", 10),
+    // The check that a candidate is minimal has the budget of a search.
+    (
+        "solve --budget=3",
+        "%@exists a | b | c. a :- b. b :- c. c :- a. :- not a. :- not b. :- not c.",
+        "UNKNOWN minimal 1 3\n",
+        30,
+    ),
+    (
+        "solve --budget=5",
+        "%@exists a | b | c. a :- b. b :- c. c :- a. :- not a. :- not b. :- not c.",
+        "UNKNOWN minimal 1 5\n",
+        30,
+    ),
+    (
+        "solve --budget=6",
+        "%@exists a | b | c. a :- b. b :- c. c :- a. :- not a. :- not b. :- not c.",
+        "COHERENT\n",
+        10,
+    ),
+    (
+        "solve --budget=27",
+        "%@exists a | b | c. a :- b. b :- c. c :- a. :- not a. :- not b. :- not c.",
+        "COHERENT\n",
+        10,
+    ),
+    (
+        "solve --cells=1",
+        "%@exists {a;b}. %@forall {c}. %@constraint :- c, not a.",
+        "UNKNOWN store 3 1\n",
+        30,
+    ),
+    (
+        "solve --cells=1",
+        "%@exists%@forall",
+        "UNKNOWN store 2 1\n",
+        30,
+    ),
+    ("solve --cells=1", "%@exists", "UNKNOWN store 1 1\n", 30),
+    ("solve --cells=2", "%@exists", "COHERENT\n", 10),
+    (
+        "solve --cells 1 --budget 1",
+        "%@exists",
+        "UNKNOWN store 1 1\n",
+        30,
+    ),
+    ("solve --budget 1 --cells 2", "%@exists", "COHERENT\n", 10),
+    // The entries of the two levels behind the first take a cell each.
+    (
+        "solve --cells=2",
+        "%@exists%@forall",
+        "UNKNOWN store 1 2\n",
+        30,
+    ),
+    ("solve --cells=3", "%@exists%@forall", "COHERENT\n", 10),
+];
+
+#[test]
+fn solves_many_atoms(rt: HostRuntime) -> Result<(), Fail> {
+    run_rows(rt.alloc(), &MANY)
+}
+
+#[test]
+fn solves_sixteen_levels(rt: HostRuntime) -> Result<(), Fail> {
+    run_rows(rt.alloc(), &SIXTEEN)
+}
+
+#[test]
+fn stays_open_where_a_budget_is_spent(rt: HostRuntime) -> Result<(), Fail> {
+    run_rows(rt.alloc(), &SPENT)
+}
 
 #[test]
 fn solves_one_level(rt: HostRuntime) -> Result<(), Fail> {
