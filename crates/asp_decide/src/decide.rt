@@ -2,11 +2,11 @@
 //!
 //! Nothing but speed rests on activities and the heap's order, so contracts speak of atoms and phases alone.
 
-ghost use Rattle.std.specs.Prelude.{◌≡◌, ℕ, ◌+◌, ◌*◌, ◌/◌, ◌<◌, ◌≤◌, ◌^◌, ◌⊎◌, false, length, None, IsTrue, IfOk, IfSome, OnSome, replicate, slice_index, slice_index_or, slice_set};
+ghost use Rattle.std.specs.Prelude.{◌≡◌, ℕ, ◌+◌, ◌*◌, ◌/◌, ◌<◌, ◌≤◌, ◌^◌, ◌⊎◌, true, false, length, None, IsTrue, IfOk, IfSome, OnSome, replicate, slice_index, slice_index_or, slice_set};
 ghost use Rattle.asp_clauses.specs.Literal.{most_atoms};
 ghost use Rattle.asp_clauses.specs.Trail.{IsPlaced, IsUnassigned};
 ghost use Rattle.asp_decide.specs.DecisionHeap.{AreAtoms};
-ghost use Rattle.asp_decide.specs.Total.{IsTotal};
+ghost use Rattle.asp_decide.specs.Total.{IsTotal, DeniesFirst};
 
 use asp_clauses::{NoMemory, Trail};
 use std::alloc::Global;
@@ -163,14 +163,18 @@ impl DecisionHeap {
     }
 }
 
-/// An unassigned literal, or none where each atom has a value. `ordered` asks for the least unassigned atom, false.
-pub fn choose(heap: &mut DecisionHeap, trail: &Trail, ordered: bool) -> Option<u32>
+/// An unassigned literal, or none where each atom has a value. `ordered` asks for the least unassigned atom, false. All
+/// atoms below `front` have values; it moves up where the least one without a value is sought.
+pub fn choose(heap: &mut DecisionHeap, front: &mut u32, trail: &Trail, ordered: bool) -> Option<u32>
     requires heap { heap.old.atoms ≡ trail.now.atoms }
     requires few { trail.now.atoms ≤ most_atoms }
+    requires front { IsTotal front.old trail.now.steps }
     ensures heap { heap.new.atoms ≡ heap.old.atoms }
     ensures phases { heap.new.phases ≡ heap.old.phases }
+    ensures front { IsTotal front.new trail.now.steps }
     ensures code { IfSome result (λ literal. literal < 2 * trail.now.atoms) }
     ensures unassigned { IfSome result (IsUnassigned trail.now.steps) }
+    ensures first { ordered ≡ true → IfSome result (DeniesFirst trail.now.steps) }
     ensures total { result ≡ None → IsTotal trail.now.atoms trail.now.steps }
 {
     if !ordered {
@@ -179,7 +183,7 @@ pub fn choose(heap: &mut DecisionHeap, trail: &Trail, ordered: bool) -> Option<u
             return active;
         }
     }
-    first_unassigned(heap, trail)
+    first_unassigned(heap, front, trail)
 }
 
 /// The most active unassigned atom that waits, with the value that it had last.
@@ -204,18 +208,22 @@ fn most_active(heap: &mut DecisionHeap, trail: &Trail) -> Option<u32>
     None
 }
 
-/// The negation of the least unassigned atom. Every atom is looked at where all have a value, as for a final answer.
-fn first_unassigned(heap: &DecisionHeap, trail: &Trail) -> Option<u32>
+/// The negation of the least unassigned atom, sought from `front` on.
+fn first_unassigned(heap: &DecisionHeap, front: &mut u32, trail: &Trail) -> Option<u32>
     requires heap { heap.now.atoms ≡ trail.now.atoms }
     requires few { trail.now.atoms ≤ most_atoms }
+    requires front { IsTotal front.old trail.now.steps }
+    ensures front { IsTotal front.new trail.now.steps }
     ensures code { IfSome result (λ literal. literal < 2 * trail.now.atoms) }
     ensures unassigned { IfSome result (IsUnassigned trail.now.steps) }
+    ensures first { IfSome result (DeniesFirst trail.now.steps) }
     ensures total { result ≡ None → IsTotal trail.now.atoms trail.now.steps }
 {
-    for atom in 0..heap.atoms() {
-        if is_unassigned(trail, atom) {
-            return Some(2 * atom);
+    while *front < heap.atoms() {
+        if is_unassigned(trail, *front) {
+            return Some(2 * *front);
         }
+        *front += 1;
     }
     None
 }

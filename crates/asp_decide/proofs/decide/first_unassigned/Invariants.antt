@@ -1,7 +1,9 @@
-use Rattle.std.proofs.Common.{ℕ, ◌<◌, ◌+◌, ◌*◌, ◌⊎◌}
-use Rattle.asp_clauses.specs.Trail.{IsPlaced}
+use Rattle.std.proofs.Common.{◌-◌}
+use Rattle.asp_decide.specs.Total.{IsTotal}
 use Rattle.asp_decide.proofs.decide.first_unassigned.Given as goal
 
-abbrev pub invariant-loop-atom : goal.invariant-loop-atom
-invariant-loop-atom l =
-    (k : ℕ) → k < l.atom → IsPlaced l.trail.steps (2 * k + 1) ⊎ IsPlaced l.trail.steps (2 * k)
+abbrev pub invariant-loop-front : goal.invariant-loop-front
+invariant-loop-front l = IsTotal l.front l.trail.steps
+
+abbrev pub decreases-loop-front : goal.decreases-loop-front
+decreases-loop-front l = l.heap.atoms - l.front
