@@ -124,4 +124,5 @@ IsReady-book old new ready k unmarked = record {
   assumptions = rw (k.trail, k.assumed) ready.assumptions;
   assumed = rw (k.trail, k.assumed) ready.assumed;
   cursor = rw (k.trail, k.assumed, k.cursor, k.held) ready.cursor;
+  order = rw (k.trail, k.assumed, k.front, k.in_order) ready.order;
 }

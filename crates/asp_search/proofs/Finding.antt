@@ -7,16 +7,22 @@ use Rattle.asp_clauses.specs.Trail.{IsPlaced}
 use Rattle.asp_search.specs.declared.search.Search.TheInside.{Inside}
 use Rattle.asp_search.specs.declared.solver.Solver.{Solver}
 use Rattle.asp_search.specs.Analysis.{is_member}
+use Rattle.asp_search.specs.Solver.{IsReady}
 use Rattle.asp_search.specs.Found.{literals_of, IsSatisfied}
-use Rattle.asp_search.specs.State.{IsFound}
+use Rattle.asp_search.specs.State.{IsFound, IsLeast}
 use Rattle.asp_search.specs.declared.stage.Stage.TheVariants.{Begun}
 use Rattle.asp_search.specs.Learned.{firm_of}
 use Rattle.asp_search.specs.SearchFields.{state_of}
 use Rattle.asp_search.proofs.Counting.{member-Contains, not_member}
 use Rattle.asp_search.proofs.Deciding.{Contains-literals, placed_from}
+use Rattle.asp_search.proofs.Ordering.{is_least}
 
 pub IsFound-view : (s : Inside) → IsSatisfied s.solver → IsFound (state_of s)
 IsFound-view s h = record { total = h.total; clauses = h.clauses; assumed = h.assumed }
+
+pub IsLeast-view : (s : Inside) → IsReady s.solver → s.solver.in_order ≡ true → IsLeast (state_of s)
+IsLeast-view s ready ordered v sat all atom low agrees found =
+    is_least s.solver.trail.atoms s.solver.book.clauses s.solver.trail.steps ready.fitted.goes.lawful s.solver.assumed.items (ready.order.decides ordered) v sat all atom agrees found
 
 pub IsSatisfied-kept : (old new : Solver) → new.book ≡ old.book → new.trail ≡ old.trail → new.assumed ≡ old.assumed → IsSatisfied old → IsSatisfied new
 IsSatisfied-kept old new book trail assumed h = record {

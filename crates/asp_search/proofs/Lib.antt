@@ -14,5 +14,6 @@ pub mod Clauses
 pub mod Stepping
 pub mod Tracing
 pub mod Deciding
+pub mod Ordering
 pub mod Adding
 pub mod Finding

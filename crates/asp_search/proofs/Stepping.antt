@@ -12,6 +12,7 @@ use Rattle.asp_clauses.specs.Book.{Goes, IsClause, SameClauses}
 use Rattle.asp_clauses.specs.Moves.{Places}
 use Rattle.asp_clauses.specs.Visits.{Extends}
 use Rattle.asp_clauses.proofs.StepsLemmas.{decisions-push_yes, decisions-push_no}
+use Rattle.asp_decide.specs.Total.{IsTotal, DeniesFirst}
 use Rattle.asp_search.specs.declared.solver.Solver.{Solver}
 use Rattle.asp_search.specs.Meaning.{SameMeaning}
 use Rattle.asp_clauses.specs.declared.kind.Kind.{Kind}
@@ -19,9 +20,9 @@ use Rattle.asp_search.specs.Learned.{IsGround, firm_of}
 use Rattle.asp_search.specs.Cores.{IsCore}
 use Rattle.asp_search.specs.Analysis.{IsTopLevel}
 use Rattle.asp_search.specs.ClauseActivity.{ActivityState, IsLater}
-use Rattle.asp_search.specs.Solver.{DecidesAssumed, IsHeld, IsCursor, IsRewound, IsReady, AreInRange, AreRefuted, Stays}
+use Rattle.asp_search.specs.Solver.{DecidesAssumed, IsHeld, IsCursor, IsRewound, IsOrderly, IsTakenBack, IsReady, AreInRange, AreRefuted, Stays}
 use Rattle.asp_search.proofs.Clauses.{SameMeaning-refl, SameMeaning-then, SameMeaning-reordered}
-use Rattle.asp_search.proofs.Trails.{kept_place, back_to-within, back_to-step, decisions-back_to}
+use Rattle.asp_search.proofs.Trails.{kept_place, placed_back, back_to-within, back_to-step, decisions-back_to}
 use Rattle.asp_clauses.proofs.ReorderLemmas.{Contains-place}
 use Rattle.asp_search.proofs.Resolution.{all_grounded, fixed_true, false_unsatisfied}
 use Rattle.asp_search.proofs.Basing.{SameMeaning-firm_reordered}
@@ -79,44 +80,136 @@ IsGround-back kinds old step level looked loose g =
     IsGround-begins kinds old (back_to level old ++ step ∷ []) (length (back_to level old)) looked loose (Begins-back level old step)
     (λ place h. let low = g.low place h in kept_place level old place low.0 (omega (arith, low.1))) g
 
--- decisions among the first steps are as before
-decides_before : (assumed : List ℕ) (old new : List Step) (n p : ℕ) → Begins old new n → DecidesAssumed assumed old → p < n → is_decision (step_at new p) ≡ true
-    → Contains assumed (literal_at new p) ⊎ ((literal : ℕ) → Contains assumed literal → IsPlaced (take p new) literal)
-decides_before assumed old new n p b decides h is =
-    let step = b.same p h in
-    ⊎_elim
-    (λ (c : Contains assumed (literal_at old p)). inl (subst (λ (s : Step). Contains assumed s.literal) (sym step) c))
-    (λ (all : (literal : ℕ) → Contains assumed literal → IsPlaced (take p old) literal).
-    inr (λ literal c. subst (λ (l : List Step). IsPlaced l literal) (sym (take-begins old new n p b (omega (arith, h)))) (all literal c)))
-    (decides p (omega (arith, h, b.inside)) (ap (λ (s : Step). is_decision s) (sym step) ∙ is))
+-- each decision is an assumption, or has the property after what stands before it
+abbrev Decides : (List Step → ℕ → Type 0) → List ℕ → List Step → Type 0
+Decides P assumed steps =
+    (place : ℕ) → place < length steps → is_decision (step_at steps place) ≡ true
+    → Contains assumed (literal_at steps place) ⊎ P (take place steps) (literal_at steps place)
 
--- new steps are implied
-pub DecidesAssumed-implied : (assumed : List ℕ) (old new : List Step) (n : ℕ) → Begins old new n → ((p : ℕ) → n ≤ p → p < length new → is_decision (step_at new p) ≡ false) → DecidesAssumed assumed old → DecidesAssumed assumed new
-DecidesAssumed-implied assumed old new n b implied decides p within is =
-    ⊎_elim
-    (λ (h : p < n). decides_before assumed old new n p b decides h is)
-    (λ (h : n ≤ p). absurd (false≢true (sym (implied p h within) ∙ is)))
-    (cases_lt p n)
+module _ (P : List Step → ℕ → Type 0) (assumed : List ℕ) where
+  -- decisions among the first steps are as before
+  decides_before : (old new : List Step) (n p : ℕ) → Begins old new n → Decides P assumed old → p < n → is_decision (step_at new p) ≡ true
+      → Contains assumed (literal_at new p) ⊎ P (take p new) (literal_at new p)
+  decides_before old new n p b decides h is =
+      let step = b.same p h in
+      ⊎_elim
+      (λ (c : Contains assumed (literal_at old p)). inl (subst (λ (s : Step). Contains assumed s.literal) (sym step) c))
+      (λ (d : P (take p old) (literal_at old p)).
+      inr (subst (λ (l : List Step). P l (literal_at new p)) (sym (take-begins old new n p b (omega (arith, h)))) (subst (λ (s : Step). P (take p old) s.literal) (sym step) d)))
+      (decides p (omega (arith, h, b.inside)) (ap (λ (s : Step). is_decision s) (sym step) ∙ is))
+
+  -- new steps are implied
+  Decides-implied : (old new : List Step) (n : ℕ) → Begins old new n → ((p : ℕ) → n ≤ p → p < length new → is_decision (step_at new p) ≡ false) → Decides P assumed old → Decides P assumed new
+  Decides-implied old new n b implied decides p within is =
+      ⊎_elim
+      (λ (h : p < n). decides_before old new n p b decides h is)
+      (λ (h : n ≤ p). absurd (false≢true (sym (implied p h within) ∙ is)))
+      (cases_lt p n)
+
+  Decides-append : (old added : List Step) → ((place : ℕ) → place < length added → is_decision (step_at added place) ≡ false) → Decides P assumed old → Decides P assumed (old ++ added)
+  Decides-append old added implied decides =
+      Decides-implied old (old ++ added) (length old) (Begins-append old added)
+      (λ p low within. ap (λ (s : Step). is_decision s) (get_or-append_right old added (length old) p no_step refl low) ∙ implied (p - length old) (omega (arith, low, within, length-append old added))) decides
+
+  Decides-back : (old : List Step) (step : Step) (level : ℕ) → is_decision step ≡ false → Decides P assumed old → Decides P assumed (back_to level old ++ step ∷ [])
+  Decides-back old step level implied decides =
+      Decides-implied old (back_to level old ++ step ∷ []) (length (back_to level old)) (Begins-back level old step)
+      (λ p low within. ap (λ (s : Step). is_decision s) (get_or_push (back_to level old) step no_step p (omega (arith, low, within, length_push (back_to level old) step))) ∙ implied) decides
+
+  -- one new step is a decision on an assumption, or has the property
+  Decides-decided : (old : List Step) (step : Step) → Contains assumed step.literal ⊎ P old step.literal → Decides P assumed old → Decides P assumed (old ++ step ∷ [])
+  Decides-decided old step why decides p within is =
+      let b = Begins-append old (step ∷ []) in
+      ⊎_elim
+      (λ (h : p < length old). decides_before old (old ++ step ∷ []) (length old) p b decides h is)
+      (λ (h : length old ≤ p).
+      let here : step_at (old ++ step ∷ []) p ≡ step = get_or_push old step no_step p (omega (arith, h, within, length_push old step)) in
+      let all_old : take p (old ++ step ∷ []) ≡ old = take-begins old (old ++ step ∷ []) (length old) p b (omega (arith, within, length_push old step)) ∙ take_all p old h in
+      ⊎_elim
+      (λ (c : Contains assumed step.literal). inl (subst (λ (s : Step). Contains assumed s.literal) (sym here) c))
+      (λ (d : P old step.literal).
+      inr (subst (λ (l : List Step). P l (literal_at (old ++ step ∷ []) p)) (sym all_old) (subst (λ (s : Step). P old s.literal) (sym here) d)))
+      why)
+      (cases_lt p (length old))
+
+-- all assumptions are true
+abbrev AreAllPlaced : List ℕ → List Step → ℕ → Type 0
+AreAllPlaced assumed before literal = (other : ℕ) → Contains assumed other → IsPlaced before other
+
+pub DecidesAssumed-append : (assumed : List ℕ) (old added : List Step) → ((place : ℕ) → place < length added → is_decision (step_at added place) ≡ false) → DecidesAssumed assumed old → DecidesAssumed assumed (old ++ added)
+DecidesAssumed-append assumed old added implied decides = Decides-append (AreAllPlaced assumed) assumed old added implied decides
 
 pub DecidesAssumed-back : (assumed : List ℕ) (old : List Step) (step : Step) (level : ℕ) → is_decision step ≡ false → DecidesAssumed assumed old → DecidesAssumed assumed (back_to level old ++ step ∷ [])
-DecidesAssumed-back assumed old step level implied decides =
-    DecidesAssumed-implied assumed old (back_to level old ++ step ∷ []) (length (back_to level old)) (Begins-back level old step)
-    (λ p low within. ap (λ (s : Step). is_decision s) (get_or_push (back_to level old) step no_step p (omega (arith, low, within, length_push (back_to level old) step))) ∙ implied) decides
+DecidesAssumed-back assumed old step level implied decides = Decides-back (AreAllPlaced assumed) assumed old step level implied decides
 
--- one new step is a decision on an assumption, or all assumptions are true
 pub DecidesAssumed-decided : (assumed : List ℕ) (old : List Step) (step : Step) → Contains assumed step.literal ⊎ ((literal : ℕ) → Contains assumed literal → IsPlaced old literal) → DecidesAssumed assumed old → DecidesAssumed assumed (old ++ step ∷ [])
-DecidesAssumed-decided assumed old step why decides p within is =
-    let b = Begins-append old (step ∷ []) in
+DecidesAssumed-decided assumed old step why decides = Decides-decided (AreAllPlaced assumed) assumed old step why decides
+
+-- ---- the order of choices
+
+placed-append : (old added : List Step) (literal : ℕ) → IsPlaced old literal → IsPlaced (old ++ added) literal
+placed-append old added literal p =
+    (p.0, omega (arith, p.1, length-append old added), ap (λ (s : Step). s.literal) (get_or_append_left old added no_step p.0 p.1) ∙ p.2)
+
+IsTotal-append : (front : ℕ) (old added : List Step) → IsTotal front old → IsTotal front (old ++ added)
+IsTotal-append front old added total atom low =
     ⊎_elim
-    (λ (h : p < length old). decides_before assumed old (old ++ step ∷ []) (length old) p b decides h is)
-    (λ (h : length old ≤ p).
-    let here : step_at (old ++ step ∷ []) p ≡ step = get_or_push old step no_step p (omega (arith, h, within, length_push old step)) in
-    let all_old : take p (old ++ step ∷ []) ≡ old = take-begins old (old ++ step ∷ []) (length old) p b (omega (arith, within, length_push old step)) ∙ take_all p old h in
+    (λ (p : IsPlaced old (2 * atom + 1)). inl (placed-append old added (2 * atom + 1) p))
+    (λ (p : IsPlaced old (2 * atom)). inr (placed-append old added (2 * atom) p))
+    (total atom low)
+
+-- no step, no decision
+pub IsOrderly-none : (assumed : List ℕ) (in_order : Bool) → IsOrderly assumed [] 0 in_order
+IsOrderly-none assumed in_order = record {
+  valued = λ atom low. absurd (omega (arith, low));
+  decides = λ ordered place within is. absurd (omega (arith, within));
+}
+
+-- implied literals more
+pub IsOrderly-append : (assumed : List ℕ) (old added : List Step) (front : ℕ) (in_order : Bool) → ((place : ℕ) → place < length added → is_decision (step_at added place) ≡ false)
+    → IsOrderly assumed old front in_order → IsOrderly assumed (old ++ added) front in_order
+IsOrderly-append assumed old added front in_order implied o = record {
+  valued = IsTotal-append front old added o.valued;
+  decides = λ ordered. Decides-append (λ (before : List Step) (literal : ℕ). DeniesFirst before literal) assumed old added implied (o.decides ordered);
+}
+
+-- one decision more
+pub IsOrderly-decided : (assumed : List ℕ) (old : List Step) (step : Step) (front : ℕ) (in_order : Bool) → (in_order ≡ true → Contains assumed step.literal ⊎ DeniesFirst old step.literal)
+    → IsOrderly assumed old front in_order → IsOrderly assumed (old ++ step ∷ []) front in_order
+IsOrderly-decided assumed old step front in_order why o = record {
+  valued = IsTotal-append front old (step ∷ []) o.valued;
+  decides = λ ordered. Decides-decided (λ (before : List Step) (literal : ℕ). DeniesFirst before literal) assumed old step (why ordered) (o.decides ordered);
+}
+
+-- the front may always stand lower
+pub IsOrderly-lower : (assumed : List ℕ) (steps : List Step) (front new_front : ℕ) (in_order : Bool) → new_front ≤ front → IsOrderly assumed steps front in_order → IsOrderly assumed steps new_front in_order
+IsOrderly-lower assumed steps front new_front in_order le o = record {
+  valued = λ atom low. o.valued atom (omega (arith, low, le));
+  decides = o.decides;
+}
+
+-- a literal on an atom below the front stays
+placed-taken_back : (old : List Step) (step : Step) (level levels front new_front atom literal : ℕ) → levels ≤ level + 1 → IsTakenBack old levels front new_front → atom < new_front → literal / 2 ≡ atom
+    → IsPlaced old literal → IsPlaced (back_to level old ++ step ∷ []) literal
+placed-taken_back old step level levels front new_front atom literal upto taken low half p =
+    let is : literal_at old p.0 / 2 ≡ atom = ap (λ (l : ℕ). l / 2) p.2 ∙ half in
     ⊎_elim
-    (λ (c : Contains assumed step.literal). inl (subst (λ (s : Step). Contains assumed s.literal) (sym here) c))
-    (λ (all : (literal : ℕ) → Contains assumed literal → IsPlaced old literal). inr (λ literal c. subst (λ (l : List Step). IsPlaced l literal) (sym all_old) (all literal c)))
-    why)
-    (cases_lt p (length old))
+    (λ (stays : level_at old p.0 < levels).
+    placed-append (back_to level old) (step ∷ []) literal (subst (λ (l : ℕ). IsPlaced (back_to level old) l) p.2 (placed_back level old p.0 p.1 (omega (arith, stays, upto)))))
+    (λ (goes : levels ≤ level_at old p.0). absurd (omega (arith, taken.undone p.0 p.1 goes, is, low)))
+    (cases_lt (level_at old p.0) levels)
+
+-- back to a level, and one implied literal more
+pub IsOrderly-back : (assumed : List ℕ) (old : List Step) (step : Step) (level levels front new_front : ℕ) (in_order : Bool) → is_decision step ≡ false → levels ≤ level + 1 → IsTakenBack old levels front new_front
+    → IsOrderly assumed old front in_order → IsOrderly assumed (back_to level old ++ step ∷ []) new_front in_order
+IsOrderly-back assumed old step level levels front new_front in_order implied upto taken o = record {
+  valued = λ atom low.
+      ⊎_elim
+      (λ (p : IsPlaced old (2 * atom + 1)). inl (placed-taken_back old step level levels front new_front atom (2 * atom + 1) upto taken low (omega arith) p))
+      (λ (p : IsPlaced old (2 * atom)). inr (placed-taken_back old step level levels front new_front atom (2 * atom) upto taken low (omega arith) p))
+      (o.valued atom (omega (arith, low, taken.no_further)));
+  decides = λ ordered. Decides-back (λ (before : List Step) (literal : ℕ). DeniesFirst before literal) assumed old step level implied (o.decides ordered);
+}
 
 pub decisions-push-le : (steps : List Step) (step : Step) → decisions (steps ++ step ∷ []) ≤ decisions steps + 1
 decisions-push-le steps step =
@@ -207,11 +300,6 @@ pub decisions-append-implied : (old added : List Step) → ((place : ℕ) → pl
 decisions-append-implied old added implied =
     omega (arith, sum_by-append (λ (s : Step). cond (is_decision s) 1 0) old added, decisions-implied added implied)
 
-pub DecidesAssumed-append : (assumed : List ℕ) (old added : List Step) → ((place : ℕ) → place < length added → is_decision (step_at added place) ≡ false) → DecidesAssumed assumed old → DecidesAssumed assumed (old ++ added)
-DecidesAssumed-append assumed old added implied decides =
-    DecidesAssumed-implied assumed old (old ++ added) (length old) (Begins-append old added)
-    (λ p low within. ap (λ (s : Step). is_decision s) (get_or-append_right old added (length old) p no_step refl low) ∙ implied (p - length old) (omega (arith, low, within, length-append old added))) decides
-
 pub AreInRange-reordered : (atoms : ℕ) (old new : List (List ℕ)) → SameClauses old new → AreInRange atoms old → AreInRange atoms new
 AreInRange-reordered atoms old new same ranges n literal within has =
     let inside : n < length old = omega (arith, within, same.as_many) in
@@ -225,8 +313,8 @@ refuted_at_zero atoms clauses steps lawful number level within fails top zero_le
     fixed_true atoms clauses clauses steps lawful (all_grounded atoms clauses steps lawful) v sat (negated other) (record { place = p.0; within = p.1; is = p.2; low = omega (arith, zero_level, top.most other p.0 c p.1 p.2) }))
 
 -- a solver that differs in nothing that matters
-pub IsReady-kept : (old new : Solver) → IsReady old → new.book ≡ old.book → new.trail ≡ old.trail → new.assumed ≡ old.assumed → new.cursor ≡ old.cursor → new.held ≡ old.held → new.looked ≡ old.looked → new.ground_loose ≡ old.ground_loose → new.seen.codes ≡ old.seen.codes → new.seen.marked ≡ [] → new.heap.atoms ≡ old.heap.atoms → IsReady new
-IsReady-kept old new ready book trail assumed cursor held looked loose codes unmarked heap = record {
+pub IsReady-kept : (old new : Solver) → IsReady old → new.book ≡ old.book → new.trail ≡ old.trail → new.assumed ≡ old.assumed → new.cursor ≡ old.cursor → new.held ≡ old.held → new.front ≡ old.front → new.in_order ≡ old.in_order → new.looked ≡ old.looked → new.ground_loose ≡ old.ground_loose → new.seen.codes ≡ old.seen.codes → new.seen.marked ≡ [] → new.heap.atoms ≡ old.heap.atoms → IsReady new
+IsReady-kept old new ready book trail assumed cursor held front in_order looked loose codes unmarked heap = record {
   fitted = record {
     goes = rw (book, trail) ready.fitted.goes;
     few = rw trail ready.fitted.few;
@@ -240,6 +328,7 @@ IsReady-kept old new ready book trail assumed cursor held looked loose codes unm
   assumptions = rw (trail, assumed) ready.assumptions;
   assumed = rw (trail, assumed) ready.assumed;
   cursor = rw (trail, assumed, cursor, held) ready.cursor;
+  order = rw (trail, assumed, front, in_order) ready.order;
 }
 
 -- an activity that is as it was
@@ -256,22 +345,23 @@ IsLater-then old middle new a b = record {
 }
 
 -- nothing that callers see has changed
-pub Stays-kept : (old new : Solver) → IsReady old → new.book ≡ old.book → new.trail ≡ old.trail → new.assumed ≡ old.assumed → new.cursor ≡ old.cursor → new.held ≡ old.held → new.looked ≡ old.looked → new.ground_loose ≡ old.ground_loose → new.seen.codes ≡ old.seen.codes → new.seen.marked ≡ [] → new.heap.atoms ≡ old.heap.atoms → new.decided ≡ old.decided → new.activity ≡ old.activity → Stays old new
-Stays-kept old new ready book trail assumed cursor held looked loose codes unmarked heap decided activity = record {
-  ready = IsReady-kept old new ready book trail assumed cursor held looked loose codes unmarked heap;
+pub Stays-kept : (old new : Solver) → IsReady old → new.book ≡ old.book → new.trail ≡ old.trail → new.assumed ≡ old.assumed → new.cursor ≡ old.cursor → new.held ≡ old.held → new.front ≡ old.front → new.in_order ≡ old.in_order → new.looked ≡ old.looked → new.ground_loose ≡ old.ground_loose → new.seen.codes ≡ old.seen.codes → new.seen.marked ≡ [] → new.heap.atoms ≡ old.heap.atoms → new.decided ≡ old.decided → new.activity ≡ old.activity → Stays old new
+Stays-kept old new ready book trail assumed cursor held front in_order looked loose codes unmarked heap decided activity = record {
+  ready = IsReady-kept old new ready book trail assumed cursor held front in_order looked loose codes unmarked heap;
   meaning = rw book (SameMeaning-refl old.book.clauses);
   firm = rw book (SameMeaning-refl (firm_of old.book));
   atoms = ap (λ (t : TrailState). t.atoms) trail;
   budget = ap (λ (t : TrailState). t.budget) trail;
   assumptions = rw assumed refl;
+  in_order = in_order;
   count = let same = ap (λ (t : TrailState). t.count) trail in omega (arith, same);
   decided = omega (arith, decided);
   activity = IsLater-same old.activity new.activity activity;
 }
 
 -- one decision more
-pub Stays-decided : (old new : Solver) (step : Step) → IsReady old → Places old.trail new.trail old.trail.steps step → Goes old.book new.trail → new.book ≡ old.book → new.assumed ≡ old.assumed → new.looked ≡ old.looked → new.ground_loose ≡ old.ground_loose → new.seen ≡ old.seen → new.heap.atoms ≡ old.heap.atoms → DecidesAssumed old.assumed.items (old.trail.steps ++ step ∷ []) → IsCursor old.assumed.items (old.trail.steps ++ step ∷ []) new.cursor new.held → old.decided ≤ new.decided → new.activity ≡ old.activity → Stays old new
-Stays-decided old new step ready placed goes book assumed looked loose seen heap decides cursor decided activity = record {
+pub Stays-decided : (old new : Solver) (step : Step) → IsReady old → Places old.trail new.trail old.trail.steps step → Goes old.book new.trail → new.book ≡ old.book → new.assumed ≡ old.assumed → new.looked ≡ old.looked → new.ground_loose ≡ old.ground_loose → new.seen ≡ old.seen → new.heap.atoms ≡ old.heap.atoms → DecidesAssumed old.assumed.items (old.trail.steps ++ step ∷ []) → IsCursor old.assumed.items (old.trail.steps ++ step ∷ []) new.cursor new.held → IsOrderly old.assumed.items (old.trail.steps ++ step ∷ []) new.front new.in_order → new.in_order ≡ old.in_order → old.decided ≤ new.decided → new.activity ≡ old.activity → Stays old new
+Stays-decided old new step ready placed goes book assumed looked loose seen heap decides cursor order in_order decided activity = record {
   ready = record {
     fitted = record {
       goes = rw book goes;
@@ -286,20 +376,22 @@ Stays-decided old new step ready placed goes book assumed looked loose seen heap
     assumptions = rw (placed.atoms, assumed) ready.assumptions;
     assumed = rw (assumed, placed.steps) decides;
     cursor = rw (assumed, placed.steps) cursor;
+    order = rw (assumed, placed.steps) order;
   };
   meaning = rw book (SameMeaning-refl old.book.clauses);
   firm = rw book (SameMeaning-refl (firm_of old.book));
   atoms = placed.atoms;
   budget = placed.budget;
   assumptions = rw assumed refl;
+  in_order = in_order;
   count = let more = placed.count in omega (arith, more);
   decided = decided;
   activity = IsLater-same old.activity new.activity activity;
 }
 
 -- implied literals more
-pub Stays-propagated : (old new : Solver) → IsReady old → Goes new.book new.trail → SameClauses old.book.clauses new.book.clauses → new.book.kinds ≡ old.book.kinds → Extends old.trail new.trail → new.assumed ≡ old.assumed → new.cursor ≡ old.cursor → new.held ≡ old.held → new.looked ≡ old.looked → new.ground_loose ≡ old.ground_loose → new.seen ≡ old.seen → new.heap ≡ old.heap → new.decided ≡ old.decided → new.activity ≡ old.activity → Stays old new
-Stays-propagated old new ready goes clauses kinds extended assumed cursor held looked loose seen heap decided activity =
+pub Stays-propagated : (old new : Solver) → IsReady old → Goes new.book new.trail → SameClauses old.book.clauses new.book.clauses → new.book.kinds ≡ old.book.kinds → Extends old.trail new.trail → new.assumed ≡ old.assumed → new.cursor ≡ old.cursor → new.held ≡ old.held → new.front ≡ old.front → new.in_order ≡ old.in_order → new.looked ≡ old.looked → new.ground_loose ≡ old.ground_loose → new.seen ≡ old.seen → new.heap ≡ old.heap → new.decided ≡ old.decided → new.activity ≡ old.activity → Stays old new
+Stays-propagated old new ready goes clauses kinds extended assumed cursor held front in_order looked loose seen heap decided activity =
     let e = extended.1 in
     record {
       ready = record {
@@ -316,12 +408,14 @@ Stays-propagated old new ready goes clauses kinds extended assumed cursor held l
         assumptions = rw (e.atoms, assumed) ready.assumptions;
         assumed = rw (assumed, e.steps) (DecidesAssumed-append old.assumed.items old.trail.steps extended.0 e.implied ready.assumed);
         cursor = rw (assumed, e.steps, cursor, held) (IsCursor-implied old.assumed.items old.trail.steps extended.0 old.cursor old.held (decisions-append-implied old.trail.steps extended.0 e.implied) ready.cursor);
+        order = rw (assumed, e.steps, front, in_order) (IsOrderly-append old.assumed.items old.trail.steps extended.0 old.front old.in_order e.implied ready.order);
       };
       meaning = SameMeaning-reordered old.book.clauses new.book.clauses clauses;
       firm = rw kinds (SameMeaning-firm_reordered old.book.kinds old.book.clauses new.book.clauses ready.learned.as_many clauses);
       atoms = e.atoms;
       budget = e.budget;
       assumptions = rw assumed refl;
+      in_order = in_order;
       count = let more = e.count in omega (arith, more);
       decided = omega (arith, decided);
       activity = IsLater-same old.activity new.activity activity;
@@ -335,6 +429,7 @@ Stays-then old middle new a b = record {
   atoms = b.atoms ∙ a.atoms;
   budget = b.budget ∙ a.budget;
   assumptions = b.assumptions ∙ a.assumptions;
+  in_order = b.in_order ∙ a.in_order;
   count = omega (arith, a.count, b.count);
   decided = omega (arith, a.decided, b.decided);
   activity = IsLater-then old.activity middle.activity new.activity a.activity b.activity;

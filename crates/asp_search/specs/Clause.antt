@@ -28,6 +28,8 @@ pub record KeepsBook (old new : Solver) : Type 0 where
   pub assumed : new.assumed ≡ old.assumed
   pub cursor : new.cursor ≡ old.cursor
   pub held : new.held ≡ old.held
+  pub front : new.front ≡ old.front
+  pub in_order : new.in_order ≡ old.in_order
   pub looked : new.looked ≡ old.looked
   pub ground_loose : new.ground_loose ≡ old.ground_loose
   pub ground : IsGround new.book.kinds old.trail.steps old.looked old.ground_loose
@@ -41,5 +43,6 @@ pub record KeepsAll (old new : Solver) : Type 0 where
   pub ready : IsReady new
   pub trail : new.trail ≡ old.trail
   pub assumed : new.assumed ≡ old.assumed
+  pub in_order : new.in_order ≡ old.in_order
   pub decided : new.decided ≡ old.decided
   pub activity : new.activity ≡ old.activity

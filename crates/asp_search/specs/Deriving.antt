@@ -16,6 +16,8 @@ pub record Keeps (old new : Solver) : Type 0 where
   pub assumed : new.assumed ≡ old.assumed
   pub cursor : new.cursor ≡ old.cursor
   pub held : new.held ≡ old.held
+  pub front : new.front ≡ old.front
+  pub in_order : new.in_order ≡ old.in_order
   pub looked : new.looked ≡ old.looked
   pub ground_loose : new.ground_loose ≡ old.ground_loose
   pub codes : new.seen.codes ≡ old.seen.codes

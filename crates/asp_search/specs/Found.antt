@@ -39,5 +39,6 @@ pub record MovesCursor (old new : Solver) : Type 0 where
   pub book : new.book ≡ old.book
   pub trail : new.trail ≡ old.trail
   pub assumed : new.assumed ≡ old.assumed
+  pub in_order : new.in_order ≡ old.in_order
   pub decided : new.decided ≡ old.decided
   pub activity : new.activity ≡ old.activity

@@ -3,6 +3,7 @@ use Rattle.std.specs.Prelude.{◌≡◌, ◌≢◌, ℕ, ◌+◌, ◌*◌, ◌/�
 use Rattle.std.specs.List.{Contains}
 use Rattle.asp_clauses.specs.declared.trail.Step.{Step}
 use Rattle.asp_clauses.specs.Trail.{IsPlaced, step_at, literal_at, level_at, is_decision, decisions, clause_at}
+use Rattle.asp_decide.specs.Total.{IsTotal, DeniesFirst}
 use Rattle.asp_search.specs.declared.solver.Solver.{Solver}
 use Rattle.asp_search.specs.Meaning.{SatisfiesAll, SameMeaning}
 use Rattle.asp_search.specs.Seen.{AreCodes}
@@ -40,6 +41,22 @@ abbrev pub IsRewound : ℕ → ℕ → ℕ → ℕ → ℕ → Type 0
 IsRewound cursor held level new_cursor new_held =
     ((new_cursor ≡ cursor) × (new_held ≡ held) × (held ≤ level)) ⊎ ((new_cursor ≡ min cursor level) × (new_held ≡ level))
 
+-- each decision is an assumption, or makes the first atom without a value false
+abbrev pub DecidesInOrder : List ℕ → List Step → Type 0
+DecidesInOrder assumed steps =
+    (place : ℕ) → place < length steps → is_decision (step_at steps place) ≡ true
+    → Contains assumed (literal_at steps place) ⊎ DeniesFirst (take place steps) (literal_at steps place)
+
+-- all atoms below the front have values, and where choices are in order, so are the decisions
+pub record IsOrderly (assumed : List ℕ) (steps : List Step) (front : ℕ) (in_order : Bool) : Type 0 where
+  pub valued : IsTotal front steps
+  pub decides : in_order ≡ true → DecidesInOrder assumed steps
+
+-- the front after what isn't of the first levels is undone: not above where it was, nor above an atom that is undone
+pub record IsTakenBack (steps : List Step) (levels front new_front : ℕ) : Type 0 where
+  pub no_further : new_front ≤ front
+  pub undone : (place : ℕ) → place < length steps → levels ≤ level_at steps place → new_front ≤ literal_at steps place / 2
+
 -- each literal of the clauses is on one of the atoms
 abbrev pub AreInRange : ℕ → List (List ℕ) → Type 0
 AreInRange atoms clauses =
@@ -54,6 +71,7 @@ pub record IsReady (solver : Solver) : Type 0 where
   pub assumptions : AreAssumptions solver.trail.atoms solver.assumed.items
   pub assumed : DecidesAssumed solver.assumed.items solver.trail.steps
   pub cursor : IsCursor solver.assumed.items solver.trail.steps solver.cursor solver.held
+  pub order : IsOrderly solver.assumed.items solver.trail.steps solver.front solver.in_order
 
 -- nothing that callers see has changed but the trail, counts that grew, and the clauses up to their meaning
 pub record Stays (old new : Solver) : Type 0 where
@@ -63,6 +81,7 @@ pub record Stays (old new : Solver) : Type 0 where
   pub atoms : new.trail.atoms ≡ old.trail.atoms
   pub budget : new.trail.budget ≡ old.trail.budget
   pub assumptions : new.assumed.items ≡ old.assumed.items
+  pub in_order : new.in_order ≡ old.in_order
   pub count : old.trail.count ≤ new.trail.count
   pub decided : old.decided ≤ new.decided
   pub activity : IsLater old.activity new.activity

@@ -1,5 +1,5 @@
 -- What contracts see of a search.
-use Rattle.std.specs.Prelude.{◌≡◌, ℕ, ◌+◌, ◌*◌, ◌/◌, ◌<◌, ◌≤◌, ◌≢◌, ◌⊎◌, Bool, List, [], length, slice_index, Option, None}
+use Rattle.std.specs.Prelude.{◌≡◌, ℕ, ◌+◌, ◌*◌, ◌/◌, ◌<◌, ◌≤◌, ◌≢◌, ◌⊎◌, Bool, true, List, [], length, slice_index, Option, None}
 use Rattle.asp_clauses.specs.Literal.{most_atoms}
 use Rattle.std.specs.List.{Contains}
 use Rattle.asp_search.specs.declared.stage.Stage.{Stage}
@@ -81,6 +81,14 @@ pub record IsFound (search : SearchState) : Type 0 where
   pub total : (atom : ℕ) → atom < search.atoms → Contains search.trail (2 * atom + 1) ⊎ Contains search.trail (2 * atom)
   pub clauses : SatisfiesAll (assignment_of search.trail) search.clauses
   pub assumed : AllTrue (assignment_of search.trail) search.assumed
+
+-- where falsity comes before truth and lower atoms count more, no assignment that satisfies clauses and assumptions comes
+-- before the found one: none that agrees with it below an atom makes the atom false where the found one makes it true
+abbrev pub IsLeast : SearchState → Type 0
+IsLeast search =
+    (v : ℕ → Bool) → SatisfiesAll v search.clauses → AllTrue v search.assumed
+    → (atom : ℕ) → atom < search.atoms → ((lower : ℕ) → lower < atom → v lower ≡ assignment_of search.trail lower)
+    → assignment_of search.trail atom ≡ true → v atom ≡ true
 
 -- the last answer of the search was an assignment
 abbrev pub HasFound : SearchState → Type 0

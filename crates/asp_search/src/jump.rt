@@ -5,7 +5,7 @@ ghost use Rattle.std.specs.Prelude.{◌≡◌, ◌↔◌, ℕ, ◌+◌, ◌*◌,
 ghost use Rattle.asp_clauses.specs.Trail.{IsFalse, StandsAt, clause_at, level_at};
 ghost use Rattle.asp_clauses.specs.Visits.{IsConflict};
 ghost use Rattle.asp_search.specs.Analysis.{IsLearned, IsTopLevel};
-ghost use Rattle.asp_search.specs.Solver.{IsReady, IsRewound, Stays, AreRefuted};
+ghost use Rattle.asp_search.specs.Solver.{IsReady, IsRewound, IsTakenBack, Stays, AreRefuted};
 ghost use Rattle.asp_search.specs.Learned.{base_of, IsGrounded};
 ghost use Rattle.asp_search.specs.Deriving.{Derives, Keeps};
 
@@ -147,7 +147,12 @@ fn go_back(solver: &mut Solver, alloc: Global, place: u32, target: u32) -> Resul
         Ok(number) => number,
         Err(_) => return Err(SearchFault::NoMemory),
     };
-    unwind(&mut solver.heap, &solver.trail, target.saturating_add(1));
+    unwind(
+        &mut solver.heap,
+        &mut solver.front,
+        &solver.trail,
+        target.saturating_add(1),
+    );
     match solver.trail.jump(&solver.book, target, literal, number) {
         Ok(()) => {
             rewind(&mut solver.cursor, &mut solver.held, target);
@@ -170,10 +175,12 @@ fn rewind(cursor: &mut usize, held: &mut u32, level: u32)
     }
 }
 
-/// Keeps the phases of the literals that aren't of the first levels, as many as `levels`, and lets their atoms wait again.
-pub fn unwind(heap: &mut DecisionHeap, trail: &Trail, levels: u32)
+/// Keeps the phases of the literals that aren't of the first levels, as many as `levels`, lets their atoms wait again, and
+/// takes the front back to the least of these.
+pub fn unwind(heap: &mut DecisionHeap, front: &mut u32, trail: &Trail, levels: u32)
     requires { heap.old.atoms ≡ trail.now.atoms }
-    ensures { heap.new.atoms ≡ heap.old.atoms }
+    ensures heap { heap.new.atoms ≡ heap.old.atoms }
+    ensures front { IsTakenBack trail.now.steps levels front.old front.new }
 {
     let mut end = trail.len();
     while end > 0 {
@@ -184,5 +191,6 @@ pub fn unwind(heap: &mut DecisionHeap, trail: &Trail, levels: u32)
         }
         heap.keep_phase(literal / 2, literal % 2 == 1);
         heap.insert(literal / 2);
+        *front = (*front).min(literal / 2);
     }
 }

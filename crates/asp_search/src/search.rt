@@ -1,12 +1,12 @@
 //! The calls of a search.
 
-ghost use Rattle.std.specs.Prelude.{◌≡◌, ◌≢◌, ℕ, ◌+◌, ◌*◌, ◌<◌, ◌≤◌, ◌^◌, List, [], length, Some, None, Ok, Err, IfOk, IfSome, OnOk, OnErr};
+ghost use Rattle.std.specs.Prelude.{◌≡◌, ◌≢◌, ℕ, ◌+◌, ◌*◌, ◌<◌, ◌≤◌, ◌^◌, List, [], length, true, Some, None, Ok, Err, IfOk, IfSome, OnOk, OnErr};
 ghost use Rattle.asp_clauses.specs.Literal.{most_atoms};
 ghost use Rattle.asp_search.specs.Meaning.{SameMeaning};
 ghost use Rattle.asp_search.specs.Seen.{AreCodes};
 ghost use Rattle.asp_search.specs.Cores.{IsCore};
 ghost use Rattle.asp_search.specs.Found.{assignment_of};
-ghost use Rattle.asp_search.specs.State.{IsFresh, Adds, AddsLoose, AreDifferent, GoesOn, IsFound, HasFound};
+ghost use Rattle.asp_search.specs.State.{IsFresh, Adds, AddsLoose, AreDifferent, GoesOn, IsFound, IsLeast, HasFound};
 
 use crate::NoMemory;
 use crate::activity::{ClauseActivity, LevelCount};
@@ -82,6 +82,8 @@ impl Search {
             assumed: Vec::new(alloc),
             cursor: 0,
             held: 0,
+            front: 0,
+            in_order: true,
             decided: 0,
         };
         Ok(Search {
@@ -134,7 +136,12 @@ impl Search {
         let assumed = Vec::from_slice(alloc, assume)?;
         self.ordered = None;
         self.stage = Stage::Begun;
-        unwind(&mut self.solver.heap, &self.solver.trail, 0);
+        unwind(
+            &mut self.solver.heap,
+            &mut self.solver.front,
+            &self.solver.trail,
+            0,
+        );
         self.solver.trail.reset();
         self.solver.activity.keep_firm(&self.solver.book);
         drop_loose(&mut self.solver.book, &self.solver.trail);
@@ -143,18 +150,22 @@ impl Search {
         self.solver.assumed = assumed;
         self.solver.cursor = 0;
         self.solver.held = 0;
+        self.solver.front = 0;
+        self.solver.in_order = true;
         Ok(())
     }
 
     /// Searches on. After a fault the same fault is answered until the next `begin`, and after `Found` the same until
-    /// a clause is added. `ordered`, the same in all calls since `begin`, decides the first unassigned atom, false, each time;
-    /// else activities and phases choose. `Spent`: as many literals were placed since `begin` as the budget allows.
+    /// a clause is added. `ordered`, the same in all calls since `begin`, decides the first unassigned atom, false, each time,
+    /// and so finds the first assignment, where falsity comes before truth and lower atoms count more; else activities and
+    /// phases choose. `Spent`: as many literals were placed since `begin` as the budget allows.
     /// `NoMemory`: memory was refused; added clauses stay.
     pub fn next(&mut self, alloc: Global, ordered: bool) -> Result<Outcome, SearchFault>
         requires begun { self.old.stage ≢ Stage.New }
         requires same { IfSome self.old.ordered (λ was. was ≡ ordered) }
         ensures goes_on { GoesOn self.old self.new }
         ensures found { result ≡ Ok Outcome.Found → IsFound self.new }
+        ensures least { result ≡ Ok Outcome.Found → ordered ≡ true → IsLeast self.new }
         ensures core { (core : List ℕ) → result ≡ Ok (Outcome.Core core) → IsCore self.old.clauses self.old.assumed core }
         ensures spent { result ≡ Err SearchFault.Spent → self.new.count ≡ self.new.budget }
         ensures few { self.new.count < 3 ^ self.new.atoms }
@@ -178,7 +189,8 @@ impl Search {
             Stage::NoMemory => Err(SearchFault::NoMemory),
             Stage::New | Stage::Begun | Stage::Extended => {
                 self.ordered = Some(ordered);
-                let outcome = run(&mut self.solver, alloc, ordered);
+                self.solver.in_order = ordered;
+                let outcome = run(&mut self.solver, alloc);
                 self.stage = stage_after(&outcome);
                 outcome
             }

@@ -34,6 +34,10 @@ pub struct Solver {
     pub cursor: usize,
     // They are true by the first decisions, as many as this.
     pub held: u32,
+    // All atoms below this one have values.
+    pub front: u32,
+    // Whether each choice since the search began made the first atom without a value false; true before the first one.
+    pub in_order: bool,
     // How many literals were decided since the search was made.
     pub decided: u64,
 }

@@ -1,11 +1,12 @@
 //! One step of the search: propagate, and then learn from a conflict or decide.
 
-ghost use Rattle.std.specs.Prelude.{◌≡◌, ◌≢◌, ◌↔◌, ℕ, ◌+◌, ◌-◌, ◌*◌, ◌/◌, ◌<◌, ◌≤◌, ◌^◌, List, length, Ok, Err, Some, None, IfOk, IfSome, OnOk, slice_index};
+ghost use Rattle.std.specs.Prelude.{◌≡◌, ◌≢◌, ◌↔◌, ℕ, ◌+◌, ◌-◌, ◌*◌, ◌/◌, ◌<◌, ◌≤◌, ◌^◌, List, length, true, Ok, Err, Some, None, IfOk, IfSome, OnOk, slice_index};
 ghost use Rattle.std.specs.List.{Contains};
 ghost use Rattle.asp_clauses.specs.Literal.{negated};
 ghost use Rattle.asp_clauses.specs.Trail.{IsPlaced, IsUnassigned};
 ghost use Rattle.asp_clauses.specs.Visits.{IsConflict};
 ghost use Rattle.asp_clauses.specs.Choices.{IsFixpoint};
+ghost use Rattle.asp_decide.specs.Total.{DeniesFirst};
 ghost use Rattle.asp_search.specs.Solver.{IsReady, Stays, AreRefuted};
 ghost use Rattle.asp_search.specs.Cores.{IsCore};
 ghost use Rattle.asp_search.specs.Found.{IsNext, AreAllTrue, IsSatisfied, MovesCursor};
@@ -21,7 +22,7 @@ use asp_defs::List;
 use std::alloc::Global;
 
 /// Steps until there is an answer. Each step that gives none places a literal, so there are fewer than 3^n of them.
-pub fn run(solver: &mut Solver, alloc: Global, ordered: bool) -> Result<Outcome, SearchFault>
+pub fn run(solver: &mut Solver, alloc: Global) -> Result<Outcome, SearchFault>
     requires { IsReady solver.old }
     ensures stays { Stays solver.old solver.new }
     ensures found { result ≡ Ok Outcome.Found → IsSatisfied solver.new }
@@ -30,14 +31,14 @@ pub fn run(solver: &mut Solver, alloc: Global, ordered: bool) -> Result<Outcome,
     ensures spent { result ≡ Err SearchFault.Spent → solver.new.trail.count ≡ solver.new.trail.budget }
 {
     loop {
-        if let Some(outcome) = step(solver, alloc, ordered)? {
+        if let Some(outcome) = step(solver, alloc)? {
             return Ok(outcome);
         }
     }
 }
 
 /// One step; none where it gave no answer and placed a literal.
-fn step(solver: &mut Solver, alloc: Global, ordered: bool) -> Result<Option<Outcome>, SearchFault>
+fn step(solver: &mut Solver, alloc: Global) -> Result<Option<Outcome>, SearchFault>
     requires { IsReady solver.old }
     ensures stays { Stays solver.old solver.new }
     ensures placed { result ≡ Ok None → solver.old.trail.count < solver.new.trail.count }
@@ -54,7 +55,7 @@ fn step(solver: &mut Solver, alloc: Global, ordered: bool) -> Result<Option<Outc
                 Ok(Some(Outcome::Core(List::new(alloc))))
             }
         }
-        None => decide(solver, alloc, ordered),
+        None => decide(solver, alloc),
     }
 }
 
@@ -74,7 +75,7 @@ fn propagate_all(solver: &mut Solver) -> Result<Option<u32>, SearchFault>
 }
 
 /// Decides the next assumption, or else an atom; found where each has a value.
-fn decide(solver: &mut Solver, alloc: Global, ordered: bool) -> Result<Option<Outcome>, SearchFault>
+fn decide(solver: &mut Solver, alloc: Global) -> Result<Option<Outcome>, SearchFault>
     requires ready { IsReady solver.old }
     requires fixpoint { IsFixpoint solver.old.book solver.old.trail.steps }
     ensures stays { Stays solver.old solver.new }
@@ -87,7 +88,12 @@ fn decide(solver: &mut Solver, alloc: Global, ordered: bool) -> Result<Option<Ou
     if let Some(literal) = next_assumption(solver) {
         return assume(solver, alloc, literal);
     }
-    match choose(&mut solver.heap, &solver.trail, ordered) {
+    match choose(
+        &mut solver.heap,
+        &mut solver.front,
+        &solver.trail,
+        solver.in_order,
+    ) {
         Some(literal) => {
             place(solver, literal)?;
             Ok(None)
@@ -178,6 +184,7 @@ fn place(solver: &mut Solver, literal: u32) -> Result<(), SearchFault>
     requires cursor { length solver.old.assumed.items ≤ solver.old.cursor }
     requires code { literal < 2 * solver.old.trail.atoms }
     requires unassigned { IsUnassigned solver.old.trail.steps literal }
+    requires first { solver.old.in_order ≡ true → DeniesFirst solver.old.trail.steps literal }
     ensures stays { Stays solver.old solver.new }
     ensures placed { OnOk result (solver.new.trail.count ≡ solver.old.trail.count + 1) }
     ensures spent { result ≡ Err SearchFault.Spent → solver.new.trail.count ≡ solver.new.trail.budget }

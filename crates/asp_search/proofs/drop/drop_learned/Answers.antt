@@ -4,7 +4,7 @@ use Rattle.asp_clauses.specs.Kept.{mark_of, kind_at, IsReason}
 use Rattle.std.proofs.lemmas.Bool.{cases_Bool}
 use Rattle.asp_search.proofs.LearnedClauses.{SameMeaning-kept, SameMeaning-firm_kept, AreLearned-kept, AreInRange-kept}
 use Rattle.asp_search.proofs.Grounding.{IsGround-renumbered}
-use Rattle.asp_search.proofs.Dropping.{DecidesAssumed-renumbered, IsCursor-renumbered}
+use Rattle.asp_search.proofs.Dropping.{DecidesAssumed-renumbered, IsCursor-renumbered, IsOrderly-renumbered}
 use Rattle.asp_search.proofs.drop.drop_learned.Goals as goal
 use Rattle.asp_search.proofs.drop.drop_learned.Goals.{After-remove}
 
@@ -40,12 +40,14 @@ returns-clause-stays c =
         assumptions = rw c.remove.ensures.trail ready.assumptions;
         assumed = rw c.remove.ensures.trail (DecidesAssumed-renumbered old.assumed.items old.trail.steps marks ready.assumed);
         cursor = rw c.remove.ensures.trail (IsCursor-renumbered old.assumed.items old.trail.steps marks old.cursor old.held ready.cursor);
+        order = rw c.remove.ensures.trail (IsOrderly-renumbered old.assumed.items old.trail.steps marks old.front old.in_order ready.order);
       };
       firm = rw (c.remove.ensures.clauses, c.remove.ensures.kinds) (SameMeaning-firm_kept old.book.kinds old.book.clauses marks as_many ready.learned only);
       meaning = rw c.remove.ensures.clauses (SameMeaning-kept old.book.kinds old.book.clauses marks as_many ready.learned only);
       atoms = ap (λ (t : TrailState). t.atoms) c.remove.ensures.trail;
       budget = ap (λ (t : TrailState). t.budget) c.remove.ensures.trail;
       assumptions = refl {A = List ℕ};
+      in_order = refl;
       count = let same = ap (λ (t : TrailState). t.count) c.remove.ensures.trail in omega (arith, same);
       decided = omega arith;
       activity = rw c.compact.ensures c.is_due.ensures;

@@ -7,7 +7,7 @@ use Rattle.asp_search.specs.Learned.{AreLearned, IsGround, firm_of}
 use Rattle.asp_search.proofs.LearnedClauses.{AreLearned-learned, SameMeaning-all_learned, SameMeaning-firm_learned}
 use Rattle.asp_search.proofs.Grounding.{IsGround-push}
 use Rattle.asp_search.proofs.Trails.{level_at-le-decisions}
-use Rattle.asp_search.proofs.Stepping.{IsGround-back, IsCursor-rewound, DecidesAssumed-back, AreInRange-push, IsLater-same, Stays-kept}
+use Rattle.asp_search.proofs.Stepping.{IsGround-back, IsCursor-rewound, DecidesAssumed-back, IsOrderly-back, IsOrderly-lower, AreInRange-push, IsLater-same, Stays-kept}
 use Rattle.asp_search.proofs.jump.go_back.Goals as goal
 use Rattle.asp_search.proofs.jump.go_back.Goals.{In-Ok}
 
@@ -49,13 +49,14 @@ pub returns-in-Err-jump-clause-stays : goal.returns-in-Err-jump-clause-stays
 returns-in-Err-jump-clause-stays c =
     let same = c.in-Err-jump.ensures.unchanged in
     let ready = c.requires.ready in
+    let old = c.args.solver.now in
     record {
       ready = record {
         fitted = record {
           goes = c.in-Err-jump.ensures.goes;
           few = rw same ready.fitted.few;
           codes = rw same ready.fitted.codes;
-          heap_atoms = rw same (c.unwind.ensures ∙ ready.fitted.heap_atoms);
+          heap_atoms = rw same (c.unwind.ensures.heap ∙ ready.fitted.heap_atoms);
         };
         ranges = rw same (ranges (goal.at.returns-in-Err-jump-clause-stays c).In-Ok);
         learned = learned (goal.at.returns-in-Err-jump-clause-stays c).In-Ok;
@@ -64,12 +65,14 @@ returns-in-Err-jump-clause-stays c =
         assumptions = rw same ready.assumptions;
         assumed = rw same ready.assumed;
         cursor = rw same ready.cursor;
+        order = rw same (IsOrderly-lower old.assumed.items old.trail.steps old.front c.unwind.new.front old.in_order c.unwind.ensures.front.no_further ready.order);
       };
       meaning = same_meaning (goal.at.returns-in-Err-jump-clause-stays c).In-Ok;
       firm = same_firm (goal.at.returns-in-Err-jump-clause-stays c).In-Ok;
       atoms = ap (λ (t : TrailState). t.atoms) same;
       budget = ap (λ (t : TrailState). t.budget) same;
       assumptions = refl {A = List ℕ};
+      in_order = refl;
       count = let still = ap (λ (t : TrailState). t.count) same in omega (arith, still);
       decided = omega arith;
       activity = IsLater-same _ _ refl;
@@ -86,7 +89,7 @@ returns-in-Ok-jump-clause-stays c =
           goes = c.in-Ok-jump.ensures.goes;
           few = rw placed.atoms ready.fitted.few;
           codes = rw placed.atoms ready.fitted.codes;
-          heap_atoms = rw placed.atoms (c.decay.ensures.atoms ∙ (c.unwind.ensures ∙ ready.fitted.heap_atoms));
+          heap_atoms = rw placed.atoms (c.decay.ensures.atoms ∙ (c.unwind.ensures.heap ∙ ready.fitted.heap_atoms));
         };
         ranges = rw placed.atoms (ranges (goal.at.returns-in-Ok-jump-clause-stays c).In-Ok);
         learned = learned (goal.at.returns-in-Ok-jump-clause-stays c).In-Ok;
@@ -96,12 +99,15 @@ returns-in-Ok-jump-clause-stays c =
         assumed = rw placed.steps (DecidesAssumed-back old.assumed.items old.trail.steps _ c.args.target refl ready.assumed);
         cursor = rw placed.steps
             (IsCursor-rewound old.assumed.items old.trail.steps _ old.cursor old.held c.args.target _ _ refl (lower c.args.target old.trail.steps c.args.place c.requires.derives.learned.lower) c.rewind.ensures ready.cursor);
+        order = rw placed.steps
+            (IsOrderly-back old.assumed.items old.trail.steps _ c.args.target c.saturating_add.result old.front c.unwind.new.front old.in_order refl (omega (arith, c.saturating_add.ensures)) c.unwind.ensures.front ready.order);
       };
       meaning = same_meaning (goal.at.returns-in-Ok-jump-clause-stays c).In-Ok;
       firm = same_firm (goal.at.returns-in-Ok-jump-clause-stays c).In-Ok;
       atoms = placed.atoms;
       budget = placed.budget;
       assumptions = refl {A = List ℕ};
+      in_order = refl;
       count = let more = placed.count in omega (arith, more);
       decided = omega arith;
       activity = c.list.ensures;
@@ -109,4 +115,4 @@ returns-in-Ok-jump-clause-stays c =
 
 pub returns-in-Err-clause-stays : goal.returns-in-Err-clause-stays
 returns-in-Err-clause-stays c =
-    Stays-kept c.args.solver.now _ c.requires.ready c.in-Err.ensures.unchanged refl refl refl refl refl refl refl c.requires.ready.unmarked refl refl refl
+    Stays-kept c.args.solver.now _ c.requires.ready c.in-Err.ensures.unchanged refl refl refl refl refl refl refl refl refl c.requires.ready.unmarked refl refl refl

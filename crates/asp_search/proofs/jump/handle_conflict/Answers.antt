@@ -17,14 +17,15 @@ learn_from-requires-clause-ready c =
       assumptions = ready.assumptions;
       assumed = ready.assumed;
       cursor = ready.cursor;
+      order = ready.order;
     }
 
 pub returns-clause-stays : goal.returns-clause-stays
 returns-clause-stays c =
     let s = c.in_ok-learn_from.ensures.stays in
-    record { ready = s.ready; meaning = s.meaning; firm = s.firm; atoms = s.atoms; budget = s.budget; assumptions = s.assumptions; count = s.count; decided = s.decided; activity = s.activity }
+    record { ready = s.ready; meaning = s.meaning; firm = s.firm; atoms = s.atoms; budget = s.budget; assumptions = s.assumptions; in_order = s.in_order; count = s.count; decided = s.decided; activity = s.activity }
 
 pub returns-in_err-learn_from-clause-stays : goal.returns-in_err-learn_from-clause-stays
 returns-in_err-learn_from-clause-stays c =
     let s = c.learn_from.ensures.stays in
-    record { ready = s.ready; meaning = s.meaning; firm = s.firm; atoms = s.atoms; budget = s.budget; assumptions = s.assumptions; count = s.count; decided = s.decided; activity = s.activity }
+    record { ready = s.ready; meaning = s.meaning; firm = s.firm; atoms = s.atoms; budget = s.budget; assumptions = s.assumptions; in_order = s.in_order; count = s.count; decided = s.decided; activity = s.activity }

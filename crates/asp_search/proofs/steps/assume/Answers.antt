@@ -6,7 +6,7 @@ use Rattle.asp_clauses.specs.Trail.{IsPlaced, decisions}
 use Rattle.asp_search.specs.Solver.{IsCursor}
 use Rattle.asp_clauses.proofs.LiteralLemmas.{negated-lt}
 use Rattle.asp_clauses.proofs.ReorderLemmas.{Contains-at}
-use Rattle.asp_search.proofs.Stepping.{Stays-kept, Stays-decided, DecidesAssumed-decided}
+use Rattle.asp_search.proofs.Stepping.{Stays-kept, Stays-decided, DecidesAssumed-decided, IsOrderly-decided}
 use Rattle.asp_search.proofs.Deciding.{IsCursor-decided, unassigned_from}
 use Rattle.asp_search.proofs.steps.assume.Goals as goal
 
@@ -29,8 +29,9 @@ returns-in-Ok-clause-stays c =
     (DecidesAssumed-decided old.assumed.items old.trail.steps (record { literal = c.args.literal; reason = None }) (inl has) c.requires.ready.assumed)
     (subst (λ (held : ℕ). IsCursor old.assumed.items (old.trail.steps ++ record { literal = c.args.literal; reason = None } ∷ []) (old.cursor + 1) held) (sym (c.decisions-solver.ensures ∙ ap (λ (steps : List Step). decisions steps) c.in-Ok.ensures.placed.steps))
     (IsCursor-decided old.assumed.items old.trail.steps (record { literal = c.args.literal; reason = None }) old.cursor old.held c.requires.next.within c.requires.next.is c.requires.ready.cursor))
-    (omega (arith, c.saturating_add-solver.ensures)) refl
+    (IsOrderly-decided old.assumed.items old.trail.steps (record { literal = c.args.literal; reason = None }) old.front old.in_order (λ ordered. inl has) c.requires.ready.order)
+    refl (omega (arith, c.saturating_add-solver.ensures)) refl
 
 pub returns-in-Err-clause-stays : goal.returns-in-Err-clause-stays
 returns-in-Err-clause-stays c =
-    Stays-kept c.args.solver.now _ c.requires.ready refl c.in-Err.ensures.unchanged refl refl refl refl refl refl c.requires.ready.unmarked refl refl refl
+    Stays-kept c.args.solver.now _ c.requires.ready refl c.in-Err.ensures.unchanged refl refl refl refl refl refl refl refl c.requires.ready.unmarked refl refl refl

@@ -21,10 +21,12 @@ loop-solver-preserved c =
         assumptions = i.ready.assumptions;
         assumed = i.ready.assumed;
         cursor = rw c.decisions-solver.ensures (IsCursor-more s.assumed.items s.trail.steps s.cursor s.held inside placed i.ready.cursor);
+        order = i.ready.order;
       };
       book = i.book;
       trail = i.trail;
       assumed = i.assumed;
+      in_order = i.in_order;
       decided = i.decided;
       activity = i.activity;
     }

@@ -12,4 +12,5 @@ invariant_of-self c =
       found = λ e. IsSatisfied-kept c.self.inside.solver c.add_clause.new.solver c.in_err-add_clause.ensures.unchanged keeps.trail keeps.assumed (c.self.invariant.found e);
       spent = λ e. rw keeps.trail (c.self.invariant.spent e);
       asked = c.self.invariant.asked;
+      order = keeps.in_order ∙ c.self.invariant.order;
     }

@@ -1,4 +1,4 @@
-use Rattle.std.proofs.Common.{◌≡◌, ◌*◌, ℕ, [], None, false, ap, ◌∙◌, sym, subst, refl, arith}
+use Rattle.std.proofs.Common.{◌≡◌, ◌*◌, ℕ, [], None, true, false, ap, ◌∙◌, sym, subst, refl, arith}
 use Rattle.asp_search.specs.Seen.{AreCodes}
 use Rattle.asp_search.specs.Solver.{DecidesAssumed, IsCursor}
 use Rattle.asp_search.specs.State.{SearchState}
@@ -10,6 +10,7 @@ use Rattle.asp_search.specs.Learned.{firm_of}
 use Rattle.asp_search.proofs.Finding.{begun_view}
 use Rattle.asp_search.proofs.LearnedClauses.{AreInRange-firm, AreLearned-firm, firm_is_firm}
 use Rattle.asp_search.proofs.Grounding.{IsGround-none}
+use Rattle.asp_search.proofs.Stepping.{IsOrderly-none}
 use Rattle.asp_search.proofs.search.Search.begin.Goals as goal
 
 pub invariant_of-self : goal.invariant_of-self
@@ -28,7 +29,7 @@ invariant_of-self c =
           goes = c.drop_loose.ensures.goes;
           few = rw c.reset.ensures.atoms ready.fitted.few;
           codes = rw c.reset.ensures.atoms ready.fitted.codes;
-          heap_atoms = rw c.reset.ensures.atoms (c.unwind.ensures ∙ ready.fitted.heap_atoms);
+          heap_atoms = rw c.reset.ensures.atoms (c.unwind.ensures.heap ∙ ready.fitted.heap_atoms);
         };
         ranges = rw (c.reset.ensures.atoms, c.drop_loose.ensures.clauses) (AreInRange-firm s.trail.atoms s.book.kinds s.book.clauses ready.learned.as_many ready.learned ready.ranges);
         learned = rw (c.drop_loose.ensures.clauses, c.drop_loose.ensures.kinds) (AreLearned-firm s.book.kinds s.book.clauses ready.learned);
@@ -37,11 +38,13 @@ invariant_of-self c =
         assumptions = rw (c.reset.ensures.atoms, items) (record { codes = codes; distinct = c.requires.different });
         assumed = rw c.reset.ensures.empty decides;
         cursor = rw c.reset.ensures.empty cursor;
+        order = rw c.reset.ensures.empty (IsOrderly-none assumed true);
       };
       budget = rw c.reset.ensures.budget c.self.invariant.budget;
       found = λ e. cc;
       spent = λ e. cc;
       asked = λ new begun. absurd (begun refl);
+      order = refl;
     }
 
 pub drop_loose-requires-clause-goes : goal.drop_loose-requires-clause-goes
@@ -59,6 +62,8 @@ returns-clause-begun c =
       assumed = c.in_ok-assumed.assumed;
       cursor = 0;
       held = 0;
+      front = 0;
+      in_order = true;
       looked = 0;
       ground_loose = false;
       activity = c.keep_firm.new.self;

@@ -1,9 +1,10 @@
-use Rattle.std.proofs.Common.{◌∙◌, sym, [], map, refl, arith}
+use Rattle.std.proofs.Common.{◌∙◌, sym, [], map, true, refl, arith}
 use Rattle.asp_clauses.specs.Kept.{is_firm}
 use Rattle.asp_clauses.proofs.KeptLemmas.{kept-none}
 use Rattle.asp_search.specs.Solver.{AreAssumptions, AreInRange, DecidesAssumed, IsCursor}
 use Rattle.asp_search.proofs.LearnedClauses.{AreLearned-none}
 use Rattle.asp_search.proofs.Grounding.{IsGround-none}
+use Rattle.asp_search.proofs.Stepping.{IsOrderly-none}
 use Rattle.asp_search.proofs.search.Search.new.Goals as goal
 
 pub invariant_of-result : goal.invariant_of-result
@@ -35,11 +36,13 @@ invariant_of-result c =
         assumptions = rw c.new-8.ensures.items assumptions;
         assumed = rw (c.new-8.ensures.items, c.in_ok-trail.ensures.empty) decides;
         cursor = rw (c.new-8.ensures.items, c.in_ok-trail.ensures.empty) cursor;
+        order = rw (c.new-8.ensures.items, c.in_ok-trail.ensures.empty) (IsOrderly-none [] true);
       };
       budget = sym c.in_ok-trail.ensures.budget;
       found = λ e. cc;
       spent = λ e. cc;
       asked = λ new begun. absurd (new refl);
+      order = refl;
     }
 
 pub returns : goal.returns
