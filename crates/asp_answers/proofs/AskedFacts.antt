@@ -8,7 +8,7 @@ use Rattle.asp_defs.specs.declared.faults.Kind.TheVariants as kinds
 use Rattle.asp_defs.specs.declared.faults.Unknown.{Unknown}
 use Rattle.asp_defs.specs.declared.ground.Lit.{Lit}
 use Rattle.asp_game.specs.State.{MovesState, Last, Asked, FoundMove, Gave, asked, with_blocked, with_kept, without_memory, refused_after, without_cube}
-use Rattle.asp_game.specs.Answers.{IsFound, IsCore, KindRose, IsBlockable}
+use Rattle.asp_game.specs.Answers.{IsFound, IsFirst, IsCore, KindRose, IsBlockable}
 use Rattle.asp_completion.specs.declared.level.Level.{Level}
 use Rattle.asp_completion.specs.Levels.{game_at}
 use Rattle.asp_answers.specs.declared.work.Answered.{Answered}
@@ -17,13 +17,18 @@ use Rattle.asp_answers.specs.declared.work.Work.{Work}
 use Rattle.asp_answers.specs.AnswersState.{moves_at, state_at, unasked}
 use Rattle.asp_answers.specs.Causes.{IsFewer, IsTrailCause, counts_with}
 use Rattle.asp_answers.specs.Works.{Serves, IsAsked, IsSettled, IsCause, HasSpent, last_with, last_of, refused_by, question_of}
-use Rattle.asp_answers.proofs.Steps.{found-alike, core-alike, serves-asked}
+use Rattle.asp_answers.proofs.Steps.{found-alike, first-alike, core-alike, serves-asked}
 
 -- an answer to the question, whatever was answered and spent before
 pub at-question-found : (l : Level) (budget searches checks : ℕ) (w : Work) (set : List Bool) → IsFound (question_of l budget w) set
     → IsFound (moves_at l budget searches checks w) set
 at-question-found l budget searches checks w set found =
     found-alike (question_of l budget w) (moves_at l budget searches checks w) set refl refl refl refl refl refl found
+
+pub at-question-first : (l : Level) (budget searches checks : ℕ) (w : Work) (set : List Bool) → IsFirst (question_of l budget w) set
+    → IsFirst (moves_at l budget searches checks w) set
+at-question-first l budget searches checks w set found =
+    first-alike (question_of l budget w) (moves_at l budget searches checks w) set refl found
 
 pub at-question-core : (l : Level) (budget searches checks : ℕ) (w : Work) (core : List Lit) → IsCore (question_of l budget w) core
     → IsCore (moves_at l budget searches checks w) core

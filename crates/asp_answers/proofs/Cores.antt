@@ -51,6 +51,24 @@ same_value false false h = refl
 lit-agrees : (L M N : List ℕ) (l : Lit) → AgreesOn L M N → holds L l.atom ≡ true → lit_true N l ≡ lit_true M l
 lit-agrees L M N l agrees low = ap (λ t. if l.positive then t else not t) (agrees.same_atoms l.atom low)
 
+-- a move has the literals that are assumed of the outer move, and those of the region where it is in it
+pub assumed-held : (B L M N : List ℕ) (region : List Lit) → AreBases B L → ((l : Lit) → IsIn l region → holds B l.atom ≡ true) → AgreesOn L M N
+    → cube_holds region N ≡ true → AllTrue (values_in B N) (codes B (assumed_literals L M region))
+assumed-held B L M N region bases own agrees inside c has =
+    let lits : List Lit = assumed_literals L M region in
+    let found = map_at (code B) lits c (in_from_contains (codes B lits) c has) in
+    let l : Lit = found.0 in
+    let at : (holds B l.atom ≡ true) → lit_true N l ≡ true → truth (values_in B N) c ≡ true = λ up h.
+    ap (truth (values_in B N)) found.2 ∙ (truth-code B (values_in B N) N l (values-agree B N) up ∙ h) in
+    elim (append_at (literals_in L M) region l found.1) [
+      | inl low ↦
+          let here = outer_literal-at L M l low in
+          let in_lower : holds L l.atom ≡ true = holds_from L l.atom here.0 in
+          at (bases.nested l.atom in_lower)
+          (lit-agrees L M N l agrees in_lower ∙ (ap (lit_true M) here.1 ∙ outer_literal-true M l.atom))
+      | inr high ↦ at (own l high) (all_at (lit_true N) region l inside high)
+    ]
+
 -- ---- cores
 
 part-atoms : (B L M core : List ℕ)

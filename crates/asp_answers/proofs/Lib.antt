@@ -6,6 +6,7 @@ pub mod Reading
 pub mod Judging
 pub mod Loops
 pub mod Below
+pub mod Firsts
 pub mod Recording
 pub mod Steps
 pub mod AskedFacts

@@ -31,15 +31,15 @@ use Rattle.asp_search.specs.Seen.{AreCodes}
 use Rattle.asp_search.specs.Meaning.{AllTrue, SameMeaning}
 use Rattle.asp_search.specs.Cores.{IsCore as IsSearchCore}
 use Rattle.asp_search.specs.Found.{assignment_of}
-use Rattle.asp_search.specs.State.{SearchState, IsFresh, GoesOn as SearchGoesOn}
+use Rattle.asp_search.specs.State.{SearchState, IsFresh, GoesOn as SearchGoesOn, IsLeast as IsSearchLeast}
 use Rattle.asp_minimal.specs.Choices.{with_choices, bound_atoms, Refutes}
 use Rattle.asp_minimal.specs.Nogoods.{IsNogood, is_false}
 use Rattle.asp_bounds.specs.Denials.{IsBoundsClause}
 use Rattle.asp_game.specs.declared.step.Step.{Step}
 use Rattle.asp_game.specs.declared.step.Step.TheVariants as steps
 use Rattle.asp_game.specs.State.{MovesState, FoundMove, Gave}
-use Rattle.asp_game.specs.Questions.{is_outer, is_region}
-use Rattle.asp_game.specs.Answers.{IsFound, IsCore, last_after}
+use Rattle.asp_game.specs.Questions.{is_outer, is_region, open_moves}
+use Rattle.asp_game.specs.Answers.{IsFound, IsFirst, IsCore, last_after}
 use Rattle.asp_completion.specs.declared.level.Level.{Level}
 use Rattle.asp_answers.specs.declared.work.Answered.{Answered}
 use Rattle.asp_answers.specs.declared.work.Answered.TheVariants as answered
@@ -54,6 +54,7 @@ use Rattle.asp_answers.proofs.Blocking.{opposite-atom, sound-beside, means-block
 use Rattle.asp_completion.proofs.Learning.{means-same, means-add}
 use Rattle.asp_completion.proofs.Bases.{AreBases, outer-subset}
 use Rattle.asp_answers.proofs.Cores.{core-answer, found-answer}
+use Rattle.asp_answers.proofs.Firsts.{first-answer}
 use Rattle.asp_answers.proofs.Measure.{candidates-fall}
 use Rattle.asp_completion.proofs.LevelFacts.{bases, rules-in, bounds-in}
 use Rattle.asp_answers.proofs.Assumed.{own-at, assumed-inside}
@@ -116,6 +117,13 @@ module _ (l : Level) (ready : IsLevel l) where
             level-bases outer-in region-in asked.means candidate-agrees candidate-in candidate.found.clauses
             (subst (λ (xs : List ℕ). AllTrue (assignment_of w.search.trail) xs) asked.assumed candidate.found.assumed) chosen met;
       }
+
+      -- and the first one where the assignment is
+      pub candidate-first : IsSearchLeast w.search → IsFound (question_of l budget w) w.set → IsFirst (question_of l budget w) w.set
+      candidate-first least found =
+          first-answer (question_of l budget w) w.search.clauses w.search.trail w.set level-bases outer-in region-in asked.means
+          (λ v sat all k low agree is. least v sat (subst (λ (xs : List ℕ). AllTrue v xs) (sym asked.assumed) all) k (subst (λ (n : ℕ). k < n) (sym asked.atoms) low) agree is)
+          candidate.read.values found.open_move
 
       -- a nogood is sound, and what is sound and false in the candidate leaves fewer candidates
       pub candidate-nogood : (U : List ℕ) (clause : List Lit) → Refutes (rules_at l) (lower l) (true_places w.set) U
@@ -287,6 +295,9 @@ found-alike s t set game level outer region kept blocked found =
     (subst (λ (r : List Lit). IsFound (parts s.game s.level s.outer r t.kept t.blocked) set) region
     (subst (λ (k : List (List Lit)). IsFound (parts s.game s.level s.outer s.region k t.blocked) set) kept
     (subst (λ (c : List (List Lit)). IsFound (parts s.game s.level s.outer s.region s.kept c) set) blocked at)))))
+
+pub first-alike : (s t : MovesState) (set : List Bool) → open_moves s s.outer ≡ open_moves t t.outer → IsFirst s set → IsFirst t set
+first-alike s t set same f = record { later = f.later; first = sym same ∙ f.first }
 
 pub core-alike : (s t : MovesState) (core : List Lit) → s.game ≡ t.game → s.level ≡ t.level → s.outer ≡ t.outer
     → s.region ≡ t.region → s.kept ≡ t.kept → s.blocked ≡ t.blocked → IsCore s core → IsCore t core

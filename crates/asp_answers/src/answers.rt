@@ -7,7 +7,7 @@ ghost use Rattle.asp_defs.specs.declared.ground.Lit.{Lit};
 ghost use Rattle.asp_defs.specs.Games.{base_size, level_count, IsValid};
 ghost use Rattle.asp_game.specs.State.{Unasked, Gave, asked, with_blocked, with_kept, without_memory, without_cube};
 ghost use Rattle.asp_game.specs.Questions.{is_outer, is_region};
-ghost use Rattle.asp_game.specs.Answers.{IsFound, IsCore, IsSpent, GoesOn, IsBlockable, is_on_base, last_after};
+ghost use Rattle.asp_game.specs.Answers.{IsFound, IsFirst, IsCore, IsSpent, GoesOn, IsBlockable, is_on_base, last_after};
 ghost use Rattle.asp_defs.specs.Lists.{IsIn};
 ghost use Rattle.asp_completion.specs.Meanings.{IsSoundClause};
 ghost use Rattle.asp_answers.specs.AnswersState.{unasked};
@@ -105,8 +105,8 @@ fn counted(answer: &Result<Step, Give>, searches: u64, checks: u64) -> Counts
 impl Moves for Answers {
     ghost state = { λ answers. answers.moves };
 
-    /// Puts a question: the moves after an outer move that have the literals of a region. `ordered` says that the least move
-    /// is wanted first; the question keeps it, and nothing is promised of the order yet. `NoMemory`: memory was refused, and
+    /// Puts a question: the moves after an outer move that have the literals of a region. `ordered` says that each
+    /// answer is to be the first of the moves that are left, in the order of interpretations. `NoMemory`: memory was refused, and
     /// all is as it was.
     fn begin(
         &mut self,
@@ -142,7 +142,7 @@ impl Moves for Answers {
         )
     }
 
-    /// The next answer. After a fault the same is answered until the next question.
+    /// The next answer, of an ordered question the first move. After a fault the same is answered until the next question.
     ///
     /// `Spent`: with `Kind::Search`, as many literals were placed on the search's trail since `begin` as the budget
     /// allows; with `Kind::Minimal`, that trail is total, and the search of the check of that candidate has placed as
@@ -152,6 +152,7 @@ impl Moves for Answers {
         requires { self.old.moves.last ≢ Unasked }
         ensures goes_on { GoesOn self.old.moves self.new.moves }
         ensures found { (set : List Bool) → result ≡ Ok (Step.Found set) → IsFound self.old.moves set }
+        ensures first { (set : List Bool) → result ≡ Ok (Step.Found set) → self.old.moves.ordered ≡ true → IsFirst self.old.moves set }
         ensures core { (core : List Lit) → result ≡ Ok (Step.Core core) → IsCore self.old.moves core }
         ensures spent { (unknown : Unknown) → result ≡ Err (Give.Spent unknown)
             → IsSpent self.old.moves self.new.moves unknown }

@@ -11,11 +11,11 @@ ghost use Rattle.asp_defs.specs.Lists.{IsIn, is_empty};
 ghost use Rattle.asp_defs.specs.Interpretations.{holds};
 ghost use Rattle.asp_search.specs.declared.stage.Stage.TheVariants.{New};
 ghost use Rattle.asp_search.specs.Seen.{AreCodes};
-ghost use Rattle.asp_search.specs.State.{HasFound};
+ghost use Rattle.asp_search.specs.State.{HasFound, IsLeast};
 ghost use Rattle.asp_minimal.specs.Choices.{bound_atoms, Refutes};
 ghost use Rattle.asp_minimal.specs.Nogoods.{is_false};
 ghost use Rattle.asp_game.specs.State.{Gave};
-ghost use Rattle.asp_game.specs.Answers.{IsFound, IsCore, last_after};
+ghost use Rattle.asp_game.specs.Answers.{IsFound, IsFirst, IsCore, last_after};
 ghost use Rattle.asp_answers.specs.Candidates.{candidates_left};
 ghost use Rattle.asp_completion.specs.Codes.{rank, codes};
 ghost use Rattle.asp_answers.specs.Assumptions.{names, outer_part as part_of};
@@ -279,6 +279,7 @@ fn run(alloc: Global, work: &mut Work) -> Result<Outcome, SearchFault>
     ensures kept { KeepsQuestion work.old work.new }
     ensures same { work.new.set ≡ work.old.set }
     ensures ran { HasRun work.old.search work.new.search result }
+    ensures least { result ≡ Ok Outcome.Found → work.old.ordered ≡ true → IsLeast work.new.search }
     ensures learned { (l : Level) → Learns l work.old work.new }
 {
     work.search.next(alloc, work.ordered)
@@ -292,6 +293,8 @@ fn step(alloc: Global, level: &Level, budget: u64, work: &mut Work) -> Result<Op
     ensures kept { KeepsQuestion work.old work.new }
     ensures found { (set : List Bool) → result ≡ Ok (Some (Step.Found set))
         → (set ≡ work.new.set) × IsFound (question_of level.now budget work.old) set }
+    ensures first { (set : List Bool) → result ≡ Ok (Some (Step.Found set)) → work.old.ordered ≡ true
+        → IsFirst (question_of level.now budget work.old) set }
     ensures core { (core : List Lit) → result ≡ Ok (Some (Step.Core core))
         → IsCore (question_of level.now budget work.old) core }
     ensures fewer { result ≡ Ok None
@@ -328,6 +331,8 @@ fn find(alloc: Global, level: &Level, budget: u64, work: &mut Work) -> Result<St
     ensures kept { KeepsQuestion work.old work.new }
     ensures found { (set : List Bool) → result ≡ Ok (Step.Found set)
         → (set ≡ work.new.set) × IsFound (question_of level.now budget work.old) set }
+    ensures first { (set : List Bool) → result ≡ Ok (Step.Found set) → work.old.ordered ≡ true
+        → IsFirst (question_of level.now budget work.old) set }
     ensures core { (core : List Lit) → result ≡ Ok (Step.Core core)
         → IsCore (question_of level.now budget work.old) core }
     ensures spent { (unknown : Unknown) → result ≡ Err (Give.Spent unknown)
@@ -382,6 +387,8 @@ fn fresh_answer(alloc: Global, level: &Level, budget: u64, work: &mut Work) -> R
     ensures last { last_of level.now budget work.new ≡ last_after result }
     ensures found { (set : List Bool) → result ≡ Ok (Step.Found set)
         → IsFound (question_of level.now budget work.old) set }
+    ensures first { (set : List Bool) → result ≡ Ok (Step.Found set) → work.old.ordered ≡ true
+        → IsFirst (question_of level.now budget work.old) set }
     ensures core { (core : List Lit) → result ≡ Ok (Step.Core core)
         → IsCore (question_of level.now budget work.old) core }
     ensures spent { (unknown : Unknown) → result ≡ Err (Give.Spent unknown)
@@ -411,6 +418,8 @@ pub fn next_answer(alloc: Global, level: &Level, budget: u64, work: &mut Work) -
     ensures last { last_of level.now budget work.new ≡ last_after result }
     ensures found { (set : List Bool) → result ≡ Ok (Step.Found set)
         → IsFound (question_of level.now budget work.old) set }
+    ensures first { (set : List Bool) → result ≡ Ok (Step.Found set) → work.old.ordered ≡ true
+        → IsFirst (question_of level.now budget work.old) set }
     ensures core { (core : List Lit) → result ≡ Ok (Step.Core core)
         → IsCore (question_of level.now budget work.old) core }
     ensures spent { (unknown : Unknown) → result ≡ Err (Give.Spent unknown)

@@ -39,7 +39,7 @@ pub struct Work {
     pub kept: Vec<List<Lit>>,
     pub outer: Bits,
     pub region: List<Lit>,
-    /// Whether the least move is wanted first.
+    /// Whether each answer is to be the first of the moves that are left.
     pub ordered: bool,
     pub blocked: List<List<Lit>>,
     /// The nogoods of all questions, in the order in which they were made.

@@ -1,5 +1,5 @@
 -- What the answers to a question for moves say.
-use Rattle.std.specs.Prelude.{◌≡◌, ℕ, ◌+◌, ◌-◌, ◌^◌, ◌<◌, ◌≤◌, min, Bool, ◌||◌, ◌==◌, List, [], length, map, IsTrue, Result, Ok, Err}
+use Rattle.std.specs.Prelude.{◌≡◌, ℕ, ◌+◌, ◌-◌, ◌^◌, ◌<◌, ◌≤◌, min, Bool, ◌||◌, ◌==◌, List, [], ◌∷◌, length, map, IsTrue, Result, Ok, Err}
 use Rattle.std.specs.List.{list_all, list_any}
 use Rattle.asp_bits.specs.Places.{true_places}
 use Rattle.asp_defs.specs.declared.faults.Give.{Give}
@@ -21,6 +21,11 @@ use Rattle.asp_game.specs.Questions.{open_moves}
 pub record IsFound (s : MovesState) (set : List Bool) : Type 0 where
   pub places : length set ≡ length s.game.bases.atoms
   pub open_move : IsIn (true_places set) (open_moves s s.outer)
+
+-- a move that comes first of all that were asked for, in the order of interpretations
+pub record IsFirst (s : MovesState) (set : List Bool) : Type 0 where
+  pub later : List (List ℕ)
+  pub first : open_moves s s.outer ≡ true_places set ∷ later
 
 -- whether an atom stands in a rule or bound of the level or in one of the cubes that are left out
 abbrev pub is_named : MovesState → ℕ → Bool

@@ -1,12 +1,12 @@
 //! The trait of the moves of a level.
-ghost use Rattle.std.specs.Prelude.{◌≡◌, ◌≢◌, List, Bool, length, IsTrue, Ok, Err, OnOk, OnErr};
+ghost use Rattle.std.specs.Prelude.{◌≡◌, ◌≢◌, List, Bool, true, length, IsTrue, Ok, Err, OnOk, OnErr};
 ghost use Rattle.asp_bits.specs.Places.{true_places};
 ghost use Rattle.asp_defs.specs.declared.faults.Give.{Give};
 ghost use Rattle.asp_defs.specs.declared.faults.Unknown.{Unknown};
 ghost use Rattle.asp_defs.specs.declared.ground.Lit.{Lit};
 ghost use Rattle.asp_game.specs.State.{MovesState, Unasked, Gave, asked, with_blocked, with_kept, without_memory, without_cube};
 ghost use Rattle.asp_game.specs.Questions.{is_outer, is_region};
-ghost use Rattle.asp_game.specs.Answers.{IsFound, IsCore, IsSpent, GoesOn, IsBlockable, is_on_base, last_after};
+ghost use Rattle.asp_game.specs.Answers.{IsFound, IsFirst, IsCore, IsSpent, GoesOn, IsBlockable, is_on_base, last_after};
 
 use crate::step::Step;
 use asp_bits::Bits;
@@ -31,8 +31,8 @@ pub trait Moves {
     /// answered since; and how often a budget was spent.
     ghost state: { Self → MovesState };
 
-    /// Puts a question: the moves after an outer move that have the literals of a region. `ordered` says that the least move is
-    /// wanted first; the question keeps it, and nothing is promised of the order yet. `NoMemory`: memory was refused, and the
+    /// Puts a question: the moves after an outer move that have the literals of a region. `ordered` says that each
+    /// answer is to be the first of the moves that are left, in the order of interpretations. `NoMemory`: memory was refused, and the
     /// question before stands.
     fn begin(
         &mut self,
@@ -48,13 +48,14 @@ pub trait Moves {
             (state self.new ≡ asked (state self.old) (true_places outer.now) region.now ordered) }
         ensures unchanged { OnErr result (state self.new ≡ state self.old) };
 
-    /// The next answer: a move that is asked for, of an ordered question too any of them, or that there is none. `Spent`: a
+    /// The next answer: a move that is asked for, of an ordered question the first one, or that there is none. `Spent`: a
     /// search of the level placed as many literals as the budget allows. `NoMemory`: memory was refused. After both the same
     /// is answered until the next question.
     fn next(&mut self, alloc: Global) -> Result<Step, Give>
         requires { (state self.old).last ≢ Unasked }
         ensures goes_on { GoesOn (state self.old) (state self.new) }
         ensures found { (set : List Bool) → result ≡ Ok (Step.Found set) → IsFound (state self.old) set }
+        ensures first { (set : List Bool) → result ≡ Ok (Step.Found set) → (state self.old).ordered ≡ true → IsFirst (state self.old) set }
         ensures core { (core : List Lit) → result ≡ Ok (Step.Core core) → IsCore (state self.old) core }
         ensures spent { (unknown : Unknown) → result ≡ Err (Give.Spent unknown)
             → IsSpent (state self.old) (state self.new) unknown }

@@ -5,7 +5,7 @@ use Rattle.asp_defs.specs.declared.faults.Give.TheVariants as gives
 use Rattle.asp_game.specs.declared.step.Step.{Step}
 use Rattle.asp_game.specs.declared.step.Step.TheVariants as steps
 use Rattle.asp_game.specs.State.{MovesState}
-use Rattle.asp_game.specs.Answers.{IsFound, IsCore}
+use Rattle.asp_game.specs.Answers.{IsFound, IsFirst, IsCore}
 use Rattle.asp_answers.proofs.Steps.{keeps-then, question-kept}
 use Rattle.asp_answers.proofs.Recording.{learned-self, learned-then}
 use Rattle.asp_answers.proofs.find.find.Goals as goal
@@ -57,6 +57,15 @@ returns-in-Some-clause-found c = λ set e.
       subst (λ (q : MovesState). IsFound q set)
           (question-kept c.args.level.now c.args.budget c.args.work.now c.loop-answer.work c.loop-answer.invariant.1) found.1,
     )
+
+pub returns-in-Some-clause-first : goal.returns-in-Some-clause-first
+returns-in-Some-clause-first c = λ set e ordered.
+    let is : c.in-Some.answer ≡ steps.Found set = cc in
+    let first =
+    c.in_ok-answer.ensures.first set (ap (λ (o : Option Step). Ok o) (c.in-Some.is ∙ ap (λ (a : Step). Some a) is))
+    (c.loop-answer.invariant.1.same_order ∙ ordered) in
+    subst (λ (q : MovesState). IsFirst q set)
+    (question-kept c.args.level.now c.args.budget c.args.work.now c.loop-answer.work c.loop-answer.invariant.1) first
 
 pub returns-in-Some-clause-core : goal.returns-in-Some-clause-core
 returns-in-Some-clause-core c = λ core e.

@@ -35,6 +35,9 @@ returns-clause-last c =
 pub returns-clause-found : goal.returns-clause-found
 returns-clause-found c = λ set e. (c.find-answer.ensures.found set e).1
 
+pub returns-clause-first : goal.returns-clause-first
+returns-clause-first c = c.find-answer.ensures.first
+
 pub returns-clause-learned : goal.returns-clause-learned
 returns-clause-learned c = c.find-answer.ensures.learned
 

@@ -7,13 +7,14 @@ use Rattle.asp_defs.specs.declared.ground.Lit.{Lit}
 use Rattle.asp_search.specs.Cores.{IsCore as IsSearchCore}
 use Rattle.asp_search.specs.Seen.{AreCodes}
 use Rattle.asp_game.specs.State.{MovesState}
-use Rattle.asp_game.specs.Answers.{IsFound, IsCore}
+use Rattle.asp_game.specs.Answers.{IsFound, IsFirst, IsCore}
+use Rattle.asp_answers.specs.declared.work.Work.{Work}
 use Rattle.asp_answers.specs.Assumptions.{outer_part}
 use Rattle.asp_completion.specs.Levels.{upper, lower}
-use Rattle.asp_answers.specs.Works.{Spends, IsAsked, question_of, unknown_of}
+use Rattle.asp_answers.specs.Works.{Spends, IsAsked, IsCandidate, question_of, unknown_of}
 use Rattle.asp_answers.proofs.Measure.{candidates-same}
 use Rattle.asp_answers.proofs.Loops.{core-codes}
-use Rattle.asp_answers.proofs.Steps.{asked-moved, work-core, keeps-then, question-kept, assumed-codes-below, spent-search}
+use Rattle.asp_answers.proofs.Steps.{asked-moved, candidate-first, work-core, keeps-then, question-kept, assumed-codes-below, spent-search}
 use Rattle.asp_answers.proofs.Recording.{learned-then}
 use Rattle.asp_answers.proofs.find.step.Goals as goal
 use Rattle.asp_answers.proofs.find.step.Goals.{After-run}
@@ -66,6 +67,27 @@ returns-in-Ok-Found-clause-found c = λ set e.
       subst (λ (q : MovesState). IsFound q set)
           (question-kept c.args.level.now c.args.budget c.args.work.now c.run.new.work c.run.ensures.kept) found.1,
     )
+
+pub returns-in-Ok-Found-clause-first : goal.returns-in-Ok-Found-clause-first
+returns-in-Ok-Found-clause-first c = λ set e ordered.
+    let l = c.args.level.now in
+    let a = asked_after (goal.at.returns-in-Ok-Found-clause-first c).After-run in
+    let w : Work = record c.run.new.work { set = c.read.new.set } in
+    let asked : IsAsked l c.args.budget w =
+    asked-moved l c.requires.ready c.args.budget c.run.new.work a c.run.new.work.search c.run.new.work.kept.items c.run.new.work.blocked
+    c.read.new.set a.atoms a.budget_is a.begun a.same_order refl a.means a.firm c.read.ensures.places c.read.ensures.inside in
+    let candidate : IsCandidate l w = record {
+      found = (c.in-Ok-Found.ensures.ran.found (ap (λ o. Ok o) c.in-Ok-Found.field-0-is)).0;
+      read = c.read.ensures;
+    } in
+    let found = c.judge.ensures.found set e in
+    let same : set ≡ c.read.new.set = found.0 ∙ c.judge.ensures.same in
+    let first : IsFirst (question_of l c.args.budget w) c.read.new.set =
+    candidate-first l c.requires.ready c.args.budget w asked candidate
+    (c.in-Ok-Found.ensures.least (ap (λ o. Ok o) c.in-Ok-Found.field-0-is) ordered)
+    (subst (λ (x : List Bool). IsFound (question_of l c.args.budget w) x) same found.1) in
+    subst (λ (q : MovesState). IsFirst q set) (question-kept l c.args.budget c.args.work.now c.run.new.work c.run.ensures.kept)
+    (subst (λ (x : List Bool). IsFirst (question_of l c.args.budget w) x) (sym same) first)
 
 pub returns-in-Ok-Found-clause-core : goal.returns-in-Ok-Found-clause-core
 returns-in-Ok-Found-clause-core c = λ core e. absurd (c.judge.ensures.no_core core e)

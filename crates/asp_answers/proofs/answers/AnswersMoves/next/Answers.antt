@@ -4,12 +4,12 @@ use Rattle.asp_defs.specs.declared.faults.Give.{Give}
 use Rattle.asp_defs.specs.declared.faults.Unknown.{Unknown}
 use Rattle.asp_defs.specs.Unknowns.{enough_placements}
 use Rattle.asp_game.specs.declared.step.Step.{Step}
-use Rattle.asp_game.specs.Answers.{IsFound, IsCore, KindRose}
+use Rattle.asp_game.specs.Answers.{IsFound, IsFirst, IsCore, KindRose}
 use Rattle.asp_answers.specs.declared.work.Counts.{Counts}
 use Rattle.asp_answers.specs.AnswersState.{AnswersState, moves_at}
 use Rattle.asp_answers.specs.Causes.{counts_with, counts_after}
 use Rattle.asp_answers.specs.Works.{last_with, last_of}
-use Rattle.asp_answers.proofs.AskedFacts.{at-question-found, at-question-core, spent-fewer, spent-cause, next-state, rose-after}
+use Rattle.asp_answers.proofs.AskedFacts.{at-question-found, at-question-first, at-question-core, spent-fewer, spent-cause, next-state, rose-after}
 use Rattle.asp_answers.specs.Recorded.{Grows}
 use Rattle.asp_answers.proofs.answers.AnswersMoves.next.Goals as goal
 
@@ -30,6 +30,13 @@ returns-clause-found c = λ set e.
     let i = c.self.inside in
     subst (λ (st : AnswersState). IsFound st.moves set) c.self.view_is
     (at-question-found i.level i.budget i.searches i.checks i.work set (c.next_answer-answer.ensures.found set e))
+
+pub returns-clause-first : goal.returns-clause-first
+returns-clause-first c = λ set e ordered.
+    let i = c.self.inside in
+    subst (λ (st : AnswersState). IsFirst st.moves set) c.self.view_is
+    (at-question-first i.level i.budget i.searches i.checks i.work set
+    (c.next_answer-answer.ensures.first set e (ap (λ (st : AnswersState). st.moves.ordered) c.self.view_is ∙ ordered)))
 
 pub returns-clause-core : goal.returns-clause-core
 returns-clause-core c = λ core e.
