@@ -1,6 +1,8 @@
-//! Tests of games: the instances of programs, their bounds, and how many instances there are, against answers that were found by
-//! hand. Programs are written as texts.
+//! Tests of games: the instances of programs, their bounds, how many instances there are, and the sets of their atoms, against
+//! answers that were found by hand. Programs are written as texts.
 #![tactic(auto)]
 
 #[cfg(test)]
 mod games;
+#[cfg(test)]
+mod sets;

@@ -1,0 +1,4 @@
+pub mod Ends
+pub mod Readable
+pub mod Taking
+pub mod Laws
