@@ -172,3 +172,17 @@ fn run_long_rows(alloc: Global, rows: &[Long]) -> Result<(), Fail> {
 fn refuses_a_text_that_is_too_long(rt: HostRuntime) -> Result<(), Fail> {
     run_long_rows(rt.alloc(), &LONG)
 }
+
+#[test]
+fn solves_facts_of_the_greatest_length(rt: HostRuntime) -> Result<(), Fail> {
+    let text = repeated(rt.alloc(), "%@exists ", "a.", 524_283, "")?;
+    let expected = ("COHERENT\n".as_bytes(), 10);
+    check_run(
+        rt.alloc(),
+        "solve",
+        text.as_bytes(),
+        60_000,
+        expected,
+        "facts up to the greatest length",
+    )
+}

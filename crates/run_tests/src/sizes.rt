@@ -10,7 +10,7 @@ const KEPT: [Row; 7] = [
         "%@exists\np(1..4096).\n",
         0,
     ),
-    ("solve", "%@exists p(1..200).", "COHERENT\n", 10),
+    ("solve", "%@exists p(1..512,1..512).", "COHERENT\n", 10),
     (
         "check",
         "%@exists p(1..512,1).",
@@ -25,7 +25,7 @@ const KEPT: [Row; 7] = [
     ),
     (
         "solve",
-        "%@exists p(1..199). :- p(X), p(Y). :- p(X). a.",
+        "%@exists p(1..1999). :- p(X), p(Y). :- p(X). a.",
         "INCOHERENT\n",
         20,
     ),
