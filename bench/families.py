@@ -388,7 +388,7 @@ def argumentation(arguments, seed):
 FAMILIES = [
     ("one level: three colours", colouring, (25, 50, 100, 200, 400), 5),
     ("one level: pigeons", pigeons, (4, 8, 9, 10), 1),
-    ("one level: queens", queens, (5, 10, 20, 40), 1),
+    ("one level: queens", queens, (4, 8, 16, 32), 1),
     ("one level: random 3-SAT", satisfiability, (50, 100, 200, 400), 5),
     ("one level: a way through all nodes", reachability, (10, 20, 40, 80), 5),
     ("formulas, two blocks", two_blocks, (15, 30, 45, 60), 5),

@@ -45,6 +45,8 @@ def run(command, text, seconds, answers):
                                  stderr=subprocess.DEVNULL, preexec_fn=lambda: resource.setrlimit(resource.RLIMIT_CPU, (seconds, seconds + 1)))
         _, status, usage = os.wait4(child.pid, 0)
         child.returncode = os.waitstatus_to_exitcode(status)
+        if child.returncode in (2, 3) and command[1:] == ["solve"]:
+            sys.exit("a text is refused")
         kilobytes = memory.read().split()
     return Run(answers.get(child.returncode), usage.ru_utime, int(kilobytes[-1]) / 1000 if kilobytes else 0)
 
